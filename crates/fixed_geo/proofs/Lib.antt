@@ -1,0 +1,4 @@
+pub mod LengthLaws
+pub mod Newton
+pub mod Quotient
+pub mod RootLaws

@@ -1,0 +1,15 @@
+//! Points on the earth in fixed-point coordinates, lists of them, and lengths between them.
+//! No float stands anywhere, and no call takes memory but those that let a list grow.
+#![tactic(auto)]
+
+mod lengths;
+mod points;
+mod roots;
+mod shapes;
+#[cfg(test)]
+mod tests;
+
+pub use lengths::{near, one_meridian, same_both_ways, segment_cm};
+pub use points::Point;
+pub use roots::whole_root;
+pub use shapes::Shape;

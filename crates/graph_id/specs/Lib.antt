@@ -1,0 +1,2 @@
+pub mod GraphId
+pub mod TilePath
