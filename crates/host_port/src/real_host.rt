@@ -1,0 +1,122 @@
+//! The host over real files and the standard output: the edge that is trusted.
+
+ghost use Rattle.std.specs.Prelude.{◌≡◌, ◌≤◌, length, IfSome};
+ghost use Rattle.host_port.specs.RealHost.{nothing};
+
+use crate::counts::one_more;
+use crate::host::{Host, HostFault};
+use std::io::Read;
+use std::path::Path;
+use std::rt::Files;
+use std::{fs, io};
+
+/// The files, folders and standard output that the program runs with. It tells nothing of them.
+///
+/// Each error of the system is a fault and counts as one, also where the system finds no memory.
+#[derive(Drop)]
+pub struct RealHost<'a, R: Files + Print> {
+    rt: &'a R,
+    input: Option<R::File>,
+    read_faults: u64,
+    put_faults: u64,
+    say_faults: u64,
+}
+
+impl<'a, R: Files + Print> RealHost<'a, R> {
+    /// A host with no input open and no fault counted.
+    pub fn new(rt: &'a R) -> RealHost<'a, R>
+        ensures reads { ⟦<RealHost<'a, R> as Host>⟧.read_faults result ≡ 0 }
+        ensures puts { ⟦<RealHost<'a, R> as Host>⟧.put_faults result ≡ 0 }
+        ensures says { ⟦<RealHost<'a, R> as Host>⟧.say_faults result ≡ 0 }
+    {
+        RealHost {
+            rt,
+            input: None,
+            read_faults: 0,
+            put_faults: 0,
+            say_faults: 0,
+        }
+    }
+}
+
+impl<'a, R: Files + Print> Host for RealHost<'a, R> {
+    ghost told = { λ _. nothing };
+
+    ghost read_faults = { λ host. host.read_faults };
+
+    ghost put_faults = { λ host. host.put_faults };
+
+    ghost say_faults = { λ host. host.say_faults };
+
+    ghost willing = { λ _. ⊥ };
+
+    fn open_input(&mut self, path: &str) -> Result<(), HostFault> {
+        match fs::open(self.rt, path) {
+            Ok(file) => {
+                self.input = Some(file);
+                Ok(())
+            }
+            Err(_) => {
+                self.read_faults = one_more(self.read_faults);
+                Err(HostFault::Failed)
+            }
+        }
+    }
+
+    fn read(&mut self, buf: &mut [u8]) -> Result<usize, HostFault> {
+        match read_some(&mut self.input, buf) {
+            Some(count) => Ok(count),
+            None => {
+                self.read_faults = one_more(self.read_faults);
+                Err(HostFault::Failed)
+            }
+        }
+    }
+
+    /// Makes the folders that are missing on the way to the file.
+    fn put(&mut self, path: &str, bytes: &[u8]) -> Result<(), HostFault> {
+        match write_file(self.rt, path, bytes) {
+            Ok(()) => {
+                self.input = None;
+                Ok(())
+            }
+            Err(_) => {
+                self.put_faults = one_more(self.put_faults);
+                Err(HostFault::Failed)
+            }
+        }
+    }
+
+    /// Writes to the standard output, which keeps nothing back.
+    fn say(&mut self, bytes: &[u8]) -> Result<(), HostFault> {
+        match self.rt.write_all(bytes) {
+            Ok(()) => Ok(()),
+            Err(_) => {
+                self.say_faults = one_more(self.say_faults);
+                Err(HostFault::Failed)
+            }
+        }
+    }
+
+    ghost tells_input = { λ host files. (files, files) };
+
+    ghost willing_tells = { λ host willing. absurd willing };
+}
+
+/// The next bytes of the file that is open, if one is and the system gives them.
+fn read_some<F: Read>(input: &mut Option<F>, buf: &mut [u8]) -> Option<usize>
+    ensures { IfSome result (λ count. count ≤ length buf.new) }
+{
+    match input {
+        Some(file) => file.read(buf).ok(),
+        None => None,
+    }
+}
+
+/// Makes the file hold these bytes, and before that the folders that are missing.
+fn write_file(rt: &impl Files, path: &str, bytes: &[u8]) -> io::Result<()> {
+    if let Some(folder) = Path::new(path).parent() {
+        fs::create_dir_all(rt, folder)?;
+    }
+    fs::write(rt, path, bytes)
+}
