@@ -1,0 +1,9 @@
+pub mod Groups
+pub mod Grammar
+pub mod FieldParts
+pub mod Messages
+pub mod Lists
+pub mod MessageLaw
+pub mod FieldsSoFar
+pub mod Packed
+pub mod ReadSoFar

@@ -1,0 +1,4 @@
+pub mod Varint
+pub mod Numbers
+pub mod ZigZag
+pub mod Fields
