@@ -1,0 +1,9 @@
+pub mod Filling
+pub mod HeaderParts
+pub mod ShortVarint
+pub mod Bodied
+pub mod Starts
+pub mod PlainParts
+pub mod Meanings
+pub mod Framed
+pub mod Within

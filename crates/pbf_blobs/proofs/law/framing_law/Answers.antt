@@ -1,0 +1,12 @@
+use Rattle.pbf_blobs.proofs.Meanings.{outcome_means}
+use Rattle.pbf_blobs.proofs.Framed.{frames_are_triples, is_framed_one_way}
+use Rattle.pbf_blobs.proofs.law.framing_law.Goals as goal
+
+pub returns-clause-causes : goal.returns-clause-causes
+returns-clause-causes c = outcome_means
+
+pub returns-clause-triples : goal.returns-clause-triples
+returns-clause-triples c = frames_are_triples
+
+pub returns-clause-one_way : goal.returns-clause-one_way
+returns-clause-one_way c = is_framed_one_way

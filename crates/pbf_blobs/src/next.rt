@@ -1,0 +1,271 @@
+//! The next triple of the input, part by part. Each part is one function with one reading call.
+
+ghost use Rattle.std.specs.Prelude.{◌≡◌, ◌+◌, ◌-◌, ◌<◌, ◌≤◌, ◌++◌, List, ℕ, min, drop, length, true, false, Some, None, IsErr, IfOk, IfSome, MatchOption};
+ghost use Rattle.host_port.specs.Told.{moved};
+ghost use Rattle.pbf_blobs.specs.Input.{OfRest, OnlyMoved};
+ghost use Rattle.pbf_blobs.specs.Answers.{Answers, AnswersBlob, CountedRead, IfRead, bytes_over};
+ghost use Rattle.pbf_blobs.specs.Triple.{is_known};
+ghost use Rattle.pbf_blobs.specs.Next.{next_of, framed, bodied, IsFront};
+
+use crate::blob::{Blob, Head};
+use crate::fault::PbfFault;
+use crate::input::{read_behind, read_full};
+use crate::parts::{Header, is_known, payload_front, plain_header};
+use host_port::{Bytes, Host};
+use std::alloc::Global;
+
+/// A header has fewer bytes than this.
+const HEADER_LIMIT: u32 = 65_536;
+
+/// The most bytes that a Blob has.
+const MOST_BLOB: u64 = 33_554_496;
+
+/// The most bytes that an input has.
+const MOST_INPUT: u64 = 536_870_912;
+
+/// The bytes of a plain Blob before its payload: the tag, and a varint of at most five bytes.
+const MOST_FRONT: usize = 6;
+
+/// Reads the next blob of an input that stands at the place `at`, or finds its end.
+///
+/// The answer is by what stands there: the end of the input before a length, a plain triple, or the first fault in
+/// the order of the parts (`docs/PBF.md`). It is the same whatever pieces the host reads in. After a fault of the
+/// bytes the place in the input isn't told here.
+pub fn next_blob<H: Host>(alloc: Global, host: &mut H, at: u64) -> Result<Option<Blob>, PbfFault>
+    requires { at ≤ 536870912 }
+    ensures bytes { (input : List ℕ) → (H.told host.old).input ≡ Some input → (H.told host.old).place ≡ Some at →
+        Answers result (next_of at (drop at input)) }
+    ensures within { (input : List ℕ) → (H.told host.old).input ≡ Some input → (H.told host.old).place ≡ Some at →
+        IfOk result (λ found. MatchOption found (length input ≤ at) (λ blob. blob.end ≤ length input)) }
+    ensures moved { IfOk result (λ found. H.told host.new ≡ moved (bytes_over at found) (H.told host.old)) }
+    ensures ahead { IfOk result (λ found. IfSome found (λ blob. (at + 4 ≤ blob.end) × (blob.end ≤ 536870912))) }
+    ensures others { OnlyMoved (H.told host.old) (H.told host.new) }
+    ensures reads { CountedRead (H.read_faults host.old) (H.read_faults host.new) result }
+    ensures puts { H.put_faults host.new ≡ H.put_faults host.old }
+    ensures says { H.say_faults host.new ≡ H.say_faults host.old }
+    ensures willing { H.willing host.old → H.willing host.new }
+    ensures cause { H.willing host.old → IfRead result ((H.told host.old).is_open ≡ Some false) }
+{
+    let mut length = [0; 4];
+    let count = read_full(host, &mut length)?;
+    if count == 0 {
+        return Ok(None);
+    }
+    if count < 4 {
+        return Err(PbfFault::Truncated { at });
+    }
+    let length = u32::from_be_bytes(length);
+    if length >= HEADER_LIMIT {
+        return Err(PbfFault::NotBuilt { at });
+    }
+    match after_length(alloc, host, at, length as usize) {
+        Ok(blob) => Ok(Some(blob)),
+        Err(fault) => Err(fault),
+    }
+}
+
+/// Reads the header, which has this length, and the Blob behind it.
+fn after_length<H: Host>(alloc: Global, host: &mut H, at: u64, len: usize) -> Result<Blob, PbfFault>
+    requires place { at ≤ 536870912 }
+    requires short { len < 65536 }
+    ensures bytes { OfRest (H.told host.old) (λ rest. AnswersBlob result (framed at len rest)) }
+    ensures moved { IfOk result (λ blob. H.told host.new ≡ moved (blob.end - (at + 4)) (H.told host.old)) }
+    ensures ahead { IfOk result (λ blob. (at + 4 ≤ blob.end) × (blob.end ≤ 536870912)) }
+    ensures others { OnlyMoved (H.told host.old) (H.told host.new) }
+    ensures reads { CountedRead (H.read_faults host.old) (H.read_faults host.new) result }
+    ensures puts { H.put_faults host.new ≡ H.put_faults host.old }
+    ensures says { H.say_faults host.new ≡ H.say_faults host.old }
+    ensures willing { H.willing host.old → H.willing host.new }
+    ensures cause { H.willing host.old → IfRead result ((H.told host.old).is_open ≡ Some false) }
+{
+    let header = read_behind(alloc, host, &[], len)?;
+    if header.len() < len {
+        return Err(PbfFault::Truncated { at: at + 4 });
+    }
+    let Some(Header { kind, size }) = plain_header(alloc, &header)? else {
+        return Err(PbfFault::NotBuilt { at });
+    };
+    let body_at = at + 4 + len as u64;
+    if size > MOST_BLOB || body_at + size > MOST_INPUT {
+        return Err(PbfFault::NotBuilt { at });
+    }
+    after_header(
+        alloc,
+        host,
+        Head {
+            at,
+            body_at,
+            kind,
+            size,
+        },
+    )
+}
+
+/// Reads the Blob.
+fn after_header<H: Host>(alloc: Global, host: &mut H, head: Head) -> Result<Blob, PbfFault>
+    requires size { head.size ≤ 33554496 }
+    requires end { head.body_at + head.size ≤ 536870912 }
+    ensures bytes { OfRest (H.told host.old) (λ rest. AnswersBlob result (bodied head rest)) }
+    ensures moved { IfOk result (λ blob. H.told host.new ≡ moved head.size (H.told host.old)) }
+    ensures end { IfOk result (λ blob. blob.end ≡ head.body_at + head.size) }
+    ensures others { OnlyMoved (H.told host.old) (H.told host.new) }
+    ensures reads { CountedRead (H.read_faults host.old) (H.read_faults host.new) result }
+    ensures puts { H.put_faults host.new ≡ H.put_faults host.old }
+    ensures says { H.say_faults host.new ≡ H.say_faults host.old }
+    ensures willing { H.willing host.old → H.willing host.new }
+    ensures cause { H.willing host.old → IfRead result ((H.told host.old).is_open ≡ Some false) }
+{
+    if is_known(head.kind.as_str()) {
+        known_blob(alloc, host, head)
+    } else {
+        other_blob(alloc, host, head)
+    }
+}
+
+/// Reads over a Blob of another type.
+fn other_blob<H: Host>(alloc: Global, host: &mut H, head: Head) -> Result<Blob, PbfFault>
+    requires size { head.size ≤ 33554496 }
+    requires end { head.body_at + head.size ≤ 536870912 }
+    requires other { is_known head.kind ≡ false }
+    ensures bytes { OfRest (H.told host.old) (λ rest. AnswersBlob result (bodied head rest)) }
+    ensures moved { IfOk result (λ blob. H.told host.new ≡ moved head.size (H.told host.old)) }
+    ensures end { IfOk result (λ blob. blob.end ≡ head.body_at + head.size) }
+    ensures others { OnlyMoved (H.told host.old) (H.told host.new) }
+    ensures reads { CountedRead (H.read_faults host.old) (H.read_faults host.new) result }
+    ensures puts { H.put_faults host.new ≡ H.put_faults host.old }
+    ensures says { H.say_faults host.new ≡ H.say_faults host.old }
+    ensures willing { H.willing host.old → H.willing host.new }
+    ensures cause { H.willing host.old → IfRead result ((H.told host.old).is_open ≡ Some false) }
+{
+    let body = read_behind(alloc, host, &[], head.size as usize)?;
+    if (body.len() as u64) < head.size {
+        return Err(PbfFault::Truncated { at: head.body_at });
+    }
+    Ok(Blob {
+        at: head.at,
+        kind: head.kind,
+        size: head.size,
+        known: false,
+        raw_at: head.body_at,
+        raw: Bytes::new(alloc),
+        end: head.body_at + head.size,
+    })
+}
+
+/// Reads a Blob of a known type: first the few bytes that show where its payload begins, so that the payload is
+/// read to where it stays.
+fn known_blob<H: Host>(alloc: Global, host: &mut H, head: Head) -> Result<Blob, PbfFault>
+    requires size { head.size ≤ 33554496 }
+    requires end { head.body_at + head.size ≤ 536870912 }
+    requires known { is_known head.kind ≡ true }
+    ensures bytes { OfRest (H.told host.old) (λ rest. AnswersBlob result (bodied head rest)) }
+    ensures moved { IfOk result (λ blob. H.told host.new ≡ moved head.size (H.told host.old)) }
+    ensures end { IfOk result (λ blob. blob.end ≡ head.body_at + head.size) }
+    ensures others { OnlyMoved (H.told host.old) (H.told host.new) }
+    ensures reads { CountedRead (H.read_faults host.old) (H.read_faults host.new) result }
+    ensures puts { H.put_faults host.new ≡ H.put_faults host.old }
+    ensures says { H.say_faults host.new ≡ H.say_faults host.old }
+    ensures willing { H.willing host.old → H.willing host.new }
+    ensures cause { H.willing host.old → IfRead result ((H.told host.old).is_open ≡ Some false) }
+{
+    let mut front = [0; MOST_FRONT];
+    let room = head.size.min(MOST_FRONT as u64) as usize;
+    let count = read_full(host, &mut front[..room])?;
+    if count < room {
+        return Err(PbfFault::Truncated { at: head.body_at });
+    }
+    after_front(alloc, host, head, &front[..room])
+}
+
+/// Reads what is left of a Blob of a known type behind this front.
+fn after_front<H: Host>(
+    alloc: Global,
+    host: &mut H,
+    head: Head,
+    front: &[u8],
+) -> Result<Blob, PbfFault>
+    requires size { head.size ≤ 33554496 }
+    requires end { head.body_at + head.size ≤ 536870912 }
+    requires known { is_known head.kind ≡ true }
+    requires front { length front.now ≡ min head.size 6 }
+    ensures bytes { OfRest (H.told host.old) (λ rest. AnswersBlob result (bodied head (front.now ++ rest))) }
+    ensures moved { IfOk result (λ blob. H.told host.new ≡ moved (head.size - length front.now) (H.told host.old)) }
+    ensures end { IfOk result (λ blob. blob.end ≡ head.body_at + head.size) }
+    ensures others { OnlyMoved (H.told host.old) (H.told host.new) }
+    ensures reads { CountedRead (H.read_faults host.old) (H.read_faults host.new) result }
+    ensures puts { H.put_faults host.new ≡ H.put_faults host.old }
+    ensures says { H.say_faults host.new ≡ H.say_faults host.old }
+    ensures willing { H.willing host.old → H.willing host.new }
+    ensures cause { H.willing host.old → IfRead result ((H.told host.old).is_open ≡ Some false) }
+{
+    let left = head.size as usize - front.len();
+    match payload_front(front, left) {
+        Some(start) => payload(alloc, host, head, start, left),
+        None => no_payload(alloc, host, head, left),
+    }
+}
+
+/// Reads the payload of a Blob of a known type, which begins with `start` and of which `left` bytes follow.
+fn payload<H: Host>(
+    alloc: Global,
+    host: &mut H,
+    head: Head,
+    start: &[u8],
+    left: usize,
+) -> Result<Blob, PbfFault>
+    requires size { length start.now + left ≤ head.size }
+    requires size_limit { head.size ≤ 33554496 }
+    requires end { head.body_at + head.size ≤ 536870912 }
+    requires known { is_known head.kind ≡ true }
+    ensures bytes { (front : List ℕ) → IsFront head left front (Some start.now) →
+        OfRest (H.told host.old) (λ rest. AnswersBlob result (bodied head (front ++ rest))) }
+    ensures moved { IfOk result (λ blob. H.told host.new ≡ moved left (H.told host.old)) }
+    ensures end { IfOk result (λ blob. blob.end ≡ head.body_at + head.size) }
+    ensures others { OnlyMoved (H.told host.old) (H.told host.new) }
+    ensures reads { CountedRead (H.read_faults host.old) (H.read_faults host.new) result }
+    ensures puts { H.put_faults host.new ≡ H.put_faults host.old }
+    ensures says { H.say_faults host.new ≡ H.say_faults host.old }
+    ensures willing { H.willing host.old → H.willing host.new }
+    ensures cause { H.willing host.old → IfRead result ((H.told host.old).is_open ≡ Some false) }
+{
+    let raw = read_behind(alloc, host, start, left)?;
+    if raw.len() < start.len() + left {
+        return Err(PbfFault::Truncated { at: head.body_at });
+    }
+    let end = head.body_at + head.size;
+    Ok(Blob {
+        at: head.at,
+        kind: head.kind,
+        size: head.size,
+        known: true,
+        raw_at: end - raw.len() as u64,
+        raw: Bytes::from(raw),
+        end,
+    })
+}
+
+/// Reads over what is left of a Blob of a known type that isn't plain: the end of the input comes first.
+fn no_payload<H: Host>(
+    alloc: Global,
+    host: &mut H,
+    head: Head,
+    left: usize,
+) -> Result<Blob, PbfFault>
+    requires size { left ≤ 33554496 }
+    requires known { is_known head.kind ≡ true }
+    ensures bytes { (front : List ℕ) → IsFront head left front None →
+        OfRest (H.told host.old) (λ rest. AnswersBlob result (bodied head (front ++ rest))) }
+    ensures err { IsErr result }
+    ensures others { OnlyMoved (H.told host.old) (H.told host.new) }
+    ensures reads { CountedRead (H.read_faults host.old) (H.read_faults host.new) result }
+    ensures puts { H.put_faults host.new ≡ H.put_faults host.old }
+    ensures says { H.say_faults host.new ≡ H.say_faults host.old }
+    ensures willing { H.willing host.old → H.willing host.new }
+    ensures cause { H.willing host.old → IfRead result ((H.told host.old).is_open ≡ Some false) }
+{
+    let rest = read_behind(alloc, host, &[], left)?;
+    if rest.len() < left {
+        return Err(PbfFault::Truncated { at: head.body_at });
+    }
+    Err(PbfFault::NotBuilt { at: head.at })
+}
