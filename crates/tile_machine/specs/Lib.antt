@@ -1,0 +1,7 @@
+pub mod At
+pub mod FromParts
+pub mod Good
+pub mod Late
+pub mod Next
+pub mod State
+pub mod Values

@@ -1,0 +1,113 @@
+use Rattle.std.specs.Prelude.{◌≡◌, ℕ, ◌+◌, Option, Some, None, Bool, true, false, not, ◌&&◌, Result, Ok, Err, is_ok, List, [], ◌∷◌, ◌==◌, nat_lt, if◌then◌else◌}
+use Rattle.tile_machine.specs.declared.event.Event.{Event}
+use Rattle.tile_machine.specs.declared.event.Event.TheVariants.{Claim, Take, BringOut, Mark, PutBack, Free, Split, Join}
+use Rattle.tile_machine.specs.declared.refused.Refused.{Refused}
+use Rattle.tile_machine.specs.declared.refused.Refused.TheVariants.{NoWorker, NoTile, Claimed, HandsFull, Held, NotHolder, IsOut, IsHome, NotClaimant, Marked, BadRange, StillHolds}
+use Rattle.tile_machine.specs.declared.state.Worker.{Worker}
+use Rattle.tile_machine.specs.State.{State, worker_of, cell_of, with_cell, with_worker, ranging}
+
+-- the state that an event leads to, or the cause for which it is refused
+abbrev pub Answer : Type 0
+Answer = Result State Refused
+
+-- goes on with what there is. Where there is none, the event is refused
+abbrev pub given : {A : Type 0} → Option A → Refused → (A → Answer) → Answer
+given None refusal rest = Err refusal
+given (Some x) refusal rest = rest x
+
+-- goes on where nobody is named. Else the event is refused, with the one that is named
+abbrev pub unless : Option ℕ → (ℕ → Refused) → Answer → Answer
+unless None refusal rest = rest
+unless (Some x) refusal rest = Err (refusal x)
+
+-- goes on where the test holds. Else the event is refused
+abbrev pub provided : Bool → Refused → Answer → Answer
+provided true refusal rest = rest
+provided false refusal rest = Err refusal
+
+-- the claim or the turn names this worker
+abbrev pub names : Option ℕ → ℕ → Bool
+names None n = false
+names (Some m) n = m == n
+
+-- the live worker whose range begins where this one ends, if it has this number
+abbrev pub if_next : Worker → Option Worker → Option Worker
+if_next me None = None
+if_next me (Some its) = if its.first == me.end then Some its else None
+
+-- the table of events: its causes of refusal in their order, and then the effect
+abbrev pub next : State → Event → Answer
+-- the claim names the worker
+next s (Claim worker tile) =
+    given (worker_of s worker) NoWorker (λ me.
+    given (cell_of s tile) NoTile (λ it.
+    unless it.claim Claimed (
+    Ok (with_cell s tile (record it { claim = Some worker })))))
+-- the turn names the worker, and the worker holds it
+next s (Take worker tile) =
+    given (worker_of s worker) NoWorker (λ me.
+    given (cell_of s tile) NoTile (λ it.
+    unless me.hand HandsFull (
+    unless it.turn Held (
+    Ok (with_worker (with_cell s tile (record it { turn = Some worker })) worker (record me { hand = Some tile }))))))
+-- the value is out
+next s (BringOut worker tile) =
+    given (worker_of s worker) NoWorker (λ me.
+    given (cell_of s tile) NoTile (λ it.
+    provided (names it.turn worker) NotHolder (
+    provided it.home IsOut (
+    Ok (with_cell s tile (record it { home = false }))))))
+-- the tile is marked
+next s (Mark worker tile) =
+    given (worker_of s worker) NoWorker (λ me.
+    given (cell_of s tile) NoTile (λ it.
+    provided (names it.turn worker) NotHolder (
+    provided (not it.home) IsHome (
+    provided (names it.claim worker) NotClaimant (
+    provided (not it.marked) Marked (
+    Ok (with_cell s tile (record it { marked = true }))))))))
+-- the value is at home
+next s (PutBack worker tile) =
+    given (worker_of s worker) NoWorker (λ me.
+    given (cell_of s tile) NoTile (λ it.
+    provided (names it.turn worker) NotHolder (
+    provided (not it.home) IsHome (
+    Ok (with_cell s tile (record it { home = true }))))))
+-- the turn is free, and the worker holds none
+next s (Free worker tile) =
+    given (worker_of s worker) NoWorker (λ me.
+    given (cell_of s tile) NoTile (λ it.
+    provided (names it.turn worker) NotHolder (
+    provided it.home IsOut (
+    Ok (with_worker (with_cell s tile (record it { turn = None })) worker (record me { hand = None }))))))
+-- the worker keeps the lower part of its range. The upper part is a new worker
+next s (Split worker at) =
+    given (worker_of s worker) NoWorker (λ me.
+    provided (nat_lt me.first at && nat_lt at me.end) BadRange (
+    Ok (with_worker (with_worker s worker (record me { end = at })) at (ranging at me.end))))
+-- the worker's range grows by the other's, and the other ends
+next s (Join worker other) =
+    given (worker_of s worker) NoWorker (λ me.
+    given (if_next me (worker_of s other)) BadRange (λ its.
+    unless its.hand StillHolds (
+    Ok (with_worker (with_worker s worker (record me { end = its.end })) other (ranging its.first its.first)))))
+
+-- the state after an event: a refused one changes nothing
+abbrev pub after : State → Answer → State
+after s (Ok new) = new
+after s (Err refusal) = s
+
+-- the state after these events, one after another
+abbrev pub leads : State → List Event → State
+leads s [] = s
+leads s (e ∷ es) = leads (after s (next s e)) es
+
+-- how many of these events are accepted
+abbrev pub accepted : State → List Event → ℕ
+accepted s [] = 0
+accepted s (e ∷ es) = (if is_ok (next s e) then 1 else 0) + accepted (after s (next s e)) es
+
+-- the answer to the event and the new state are those of the table: a refusal leaves the old state
+abbrev pub Follows : {A : Type 0} → State → Event → Result A Refused → State → Type 0
+Follows old event (Ok _) new = next old event ≡ Ok new
+Follows old event (Err cause) new = (next old event ≡ Err cause) × (new ≡ old)
