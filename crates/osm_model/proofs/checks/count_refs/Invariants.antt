@@ -1,0 +1,7 @@
+-- The ways so far are counted.
+use Rattle.std.proofs.Common.{◌≡◌, ◌-◌, ◌^◌, min, take}
+use Rattle.osm_model.specs.Extract.{refs_in}
+use Rattle.osm_model.proofs.checks.count_refs.Given as goal
+
+abbrev pub invariant-loop-way : goal.invariant-loop-way
+invariant-loop-way l = l.count ≡ min (2 ^ 64 - 1) (refs_in (take l.way-index l.ways))
