@@ -1,0 +1,17 @@
+pub mod Options
+pub mod Exits
+pub mod Packed
+pub mod Left
+pub mod Sums
+pub mod PartChains
+pub mod Growth
+pub mod Rules
+pub mod NodeLists
+pub mod Texts
+pub mod OneNumber
+pub mod Loops
+pub mod GroupChain
+pub mod WayChain
+pub mod Narrowing
+pub mod Prefix
+pub mod OneReading

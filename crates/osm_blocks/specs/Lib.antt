@@ -1,0 +1,16 @@
+pub mod Messages
+pub mod Deltas
+pub mod Strings
+pub mod Nodes
+pub mod Ways
+pub mod Blocks
+pub mod Headers
+pub mod Objects
+pub mod Drafts
+pub mod Limits
+pub mod Lookups
+pub mod DraftInside
+pub mod Tables
+pub mod Answers
+pub mod Extracts
+pub mod ReadAnswers
