@@ -1,0 +1,18 @@
+pub mod Splits
+mod Ends
+pub mod Patterns
+mod Along
+mod Own
+mod Fits
+mod NodePlaces
+mod HeadLemmas
+mod SurveyLemmas
+mod RunLemmas
+mod EachLine
+mod LineLemmas
+mod MarkLemmas
+mod CourseLemmas
+mod PartLemmas
+mod CutLemmas
+pub mod Agree
+mod WorkedRows

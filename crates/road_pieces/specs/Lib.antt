@@ -1,0 +1,14 @@
+pub mod Paths
+pub mod DirectedPiece
+pub mod Rules
+pub mod Runs
+pub mod Steps
+pub mod Pieces
+pub mod Lengths
+pub mod Walks
+pub mod Turns
+pub mod Rows
+pub mod Lines
+pub mod Heads
+pub mod Parts
+pub mod Counts

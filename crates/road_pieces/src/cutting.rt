@@ -1,0 +1,129 @@
+//! Roads, cut into pieces at junctions.
+
+ghost use Rattle.std.specs.Prelude.{◌≡◌, ◌<◌, ◌≤◌, ◌++◌, ◌⊎◌, [], Option, None, Some, find, option_map, nat_lt, length, map, flat_map, All, IfOk, IfErr, OnOk};
+ghost use Rattle.osm_model.specs.declared.nodes.OsmNode.{OsmNode};
+ghost use Rattle.road_pieces.specs.declared.faults.CutFault.{CutFault};
+ghost use Rattle.road_pieces.specs.Runs.{all_runs, is_junction};
+ghost use Rattle.road_pieces.specs.Lines.{all_lines};
+ghost use Rattle.road_pieces.specs.Parts.{line_rows};
+ghost use Rattle.road_pieces.specs.Rows.{junction_row, junction_rows, piece_rows, routable_ways, missing_refs, too_long, refusal};
+
+use crate::counts::count_pieces;
+use crate::crossings::find_junctions;
+use crate::faults::CutFault;
+use crate::lines::Lines;
+use crate::parts::cut_line;
+use crate::rows::{Junction, Junctions, Piece, Pieces, Roads};
+use crate::rules::{is_barrier, node_access};
+use crate::survey::find_lines;
+use fixed_geo::Point;
+use osm_model::{Extract, OsmNode};
+use std::alloc::{AllocError, Global};
+
+/// The most pieces that roads may have.
+const MOST_PIECES: u64 = 4_000_000;
+
+/// The greatest length of a piece in centimetres.
+const LONGEST: u64 = 268_435_455;
+
+/// The roads of an extract: its junctions in order of OSM id, and the pieces between them in order of key.
+///
+/// More than 4,000,000 pieces are refused, or else the first piece that is longer than 268,435,455 cm.
+pub fn cut(alloc: Global, extract: &Extract) -> Result<Roads, CutFault>
+    ensures junctions { IfOk result (λ roads. roads.junctions ≡ junction_rows extract.now) }
+    ensures pieces { IfOk result (λ roads. roads.pieces ≡ piece_rows extract.now) }
+    ensures ways { IfOk result (λ roads. roads.ways ≡ routable_ways extract.now) }
+    ensures runs { IfOk result (λ roads. roads.runs ≡ length (all_runs extract.now)) }
+    ensures missing { IfOk result (λ roads. roads.missing ≡ missing_refs extract.now) }
+
+    // A refusal has its cause, and a cause is refused; only want of memory is free.
+    ensures accepted { OnOk result (refusal (piece_rows extract.now) ≡ None) }
+    ensures refused { IfErr result (λ fault. (fault ≡ CutFault.OutOfMemory) ⊎ (refusal (piece_rows extract.now) ≡ Some fault)) }
+{
+    let survey = find_lines(alloc, extract)?;
+    let flags = find_junctions(alloc, extract, &survey.lines)?;
+    let count = count_pieces(&survey.lines, flags.as_slice());
+    if count > MOST_PIECES {
+        return Err(CutFault::TooManyPieces { count });
+    }
+    let pieces = cut_lines(alloc, extract, flags.as_slice(), &survey.lines)?;
+    if let Some(fault) = first_too_long(pieces.as_slice()) {
+        return Err(fault);
+    }
+    let junctions = make_junctions(alloc, extract, flags.as_slice())?;
+    Ok(Roads {
+        junctions: Junctions::from_vec(junctions),
+        pieces: Pieces::from_vec(pieces),
+        ways: survey.ways,
+        runs: survey.lines.len() as u64,
+        missing: survey.missing,
+    })
+}
+
+/// The pieces of all lines.
+fn cut_lines(
+    alloc: Global,
+    extract: &Extract,
+    flags: &[bool],
+    lines: &Lines,
+) -> Result<Vec<Piece>, AllocError>
+    requires flagged { flags.now ≡ map (λ n. is_junction extract.now n.id) extract.now.nodes }
+    requires found { lines.now.done ≡ all_lines extract.now }
+    ensures { IfOk result (λ pieces. pieces.items ≡ flat_map (line_rows extract.now) (all_lines extract.now)) }
+{
+    let mut pieces = Vec::new(alloc);
+    for i in 0..lines.len() {
+        cut_line(alloc, extract, flags, &lines.line(i), &mut pieces)?;
+    }
+    Ok(pieces)
+}
+
+/// Why the first piece that is too long is refused.
+fn first_too_long(pieces: &[Piece]) -> Option<CutFault>
+    ensures { result ≡ option_map too_long (find (λ p. nat_lt 268_435_455 p.cm) pieces.now) }
+{
+    for piece in pieces {
+        if piece.cm > LONGEST {
+            return Some(CutFault::EdgeTooLong {
+                way: piece.key.way,
+                run: piece.key.run,
+                piece: piece.key.piece,
+                cm: piece.cm,
+            });
+        }
+    }
+    None
+}
+
+/// The nodes that are junctions.
+fn make_junctions(
+    alloc: Global,
+    extract: &Extract,
+    flags: &[bool],
+) -> Result<Vec<Junction>, AllocError>
+    requires { flags.now ≡ map (λ n. is_junction extract.now n.id) extract.now.nodes }
+    ensures { IfOk result (λ junctions. junctions.items ≡ junction_rows extract.now) }
+{
+    let mut junctions = Vec::new(alloc);
+    for (place, node) in extract.nodes.as_slice().iter().enumerate() {
+        if flags[place] {
+            junctions.push(junction_of(node))?;
+        }
+    }
+    Ok(junctions)
+}
+
+/// The junction of a node.
+fn junction_of(node: &OsmNode) -> Junction
+    ensures { result ≡ junction_row node.now }
+{
+    Junction {
+        osm: node.id,
+        at: Point {
+            lat: node.lat,
+            lon: node.lon,
+        },
+        access: node_access(&node.tags),
+        barrier: is_barrier(&node.tags),
+    }
+}

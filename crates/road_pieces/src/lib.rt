@@ -1,0 +1,24 @@
+//! Roads as runs of segments, and as pieces between junctions.
+#![tactic(auto)]
+
+mod counts;
+mod courses;
+mod crossings;
+mod cutting;
+mod faults;
+mod laws;
+mod lines;
+mod parts;
+mod places;
+mod rows;
+mod rules;
+mod steps;
+mod survey;
+#[cfg(test)]
+mod tests;
+
+pub use cutting::cut;
+pub use faults::CutFault;
+pub use laws::{turns_agree, walks_agree};
+pub use rows::{Junction, Junctions, Piece, Pieces, Roads};
+pub use steps::Step;

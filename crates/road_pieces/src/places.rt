@@ -1,0 +1,34 @@
+//! Nodes by their places in the list of nodes.
+
+ghost use Rattle.std.specs.Prelude.{◌≡◌, ◌<◌, true, false, length, IfSome, IfNone};
+ghost use Rattle.osm_model.specs.Extract.{NodesRise};
+ghost use Rattle.road_pieces.specs.Runs.{has_node};
+ghost use Rattle.road_pieces.specs.Lines.{place_of};
+
+use osm_model::OsmNode;
+use std::cmp::Ordering;
+
+/// The place of the node with that id, and `None` where there is none. It is sought at `guess` first:
+/// neighbours on a road are often neighbours in the list.
+pub(crate) fn find_node(nodes: &[OsmNode], id: &i64, guess: usize) -> Option<usize>
+    requires { NodesRise nodes.now }
+    ensures inside { IfSome result (λ place. place < length nodes.now) }
+    ensures place { IfSome result (λ place. place_of nodes.now id.now ≡ place) }
+    ensures some { IfSome result (λ _. has_node nodes.now id.now ≡ true) }
+    ensures none { IfNone result (has_node nodes.now id.now ≡ false) }
+{
+    if guess < nodes.len() && nodes[guess].id.cmp(id).is_eq() {
+        return Some(guess);
+    }
+    let mut low = 0;
+    let mut high = nodes.len();
+    while low < high {
+        let middle = low + (high - low) / 2;
+        match nodes[middle].id.cmp(id) {
+            Ordering::Less => low = middle + 1,
+            Ordering::Equal => return Some(middle),
+            Ordering::Greater => high = middle,
+        }
+    }
+    None
+}

@@ -1,0 +1,81 @@
+//! The runs of the ways of an extract.
+
+ghost use Rattle.std.specs.Prelude.{◌≡◌, ◌<◌, ◌≤◌, ◌+◌, ◌++◌, ◌∷◌, [], length, not, count_by, IfOk, OnOk};
+ghost use Rattle.osm_model.specs.Extract.{NodesRise};
+ghost use Rattle.road_pieces.specs.Runs.{has_node};
+ghost use Rattle.road_pieces.specs.Lines.{lines_from, all_lines};
+ghost use Rattle.road_pieces.specs.Rows.{routable_ways, missing_refs};
+
+use crate::lines::Lines;
+use crate::places::find_node;
+use crate::rules::is_routable;
+use osm_model::{Extract, OsmNode};
+use std::alloc::{AllocError, Global};
+
+/// The runs of an extract, the number of its routable ways, and the number of places in their refs whose
+/// node isn't there.
+#[derive(Debug, Drop)]
+pub(crate) struct Survey {
+    pub lines: Lines,
+    pub ways: u64,
+    pub missing: u64,
+}
+
+/// Finds the runs of all ways, in one pass over their refs.
+pub(crate) fn find_lines(alloc: Global, extract: &Extract) -> Result<Survey, AllocError>
+    ensures lines { IfOk result (λ s. s.lines.done ≡ all_lines extract.now) }
+    ensures ways { IfOk result (λ s. s.ways ≡ routable_ways extract.now) }
+    ensures missing { IfOk result (λ s. s.missing ≡ missing_refs extract.now) }
+{
+    let nodes = extract.nodes.as_slice();
+    let mut lines = Lines::new(alloc);
+    let mut routable = 0;
+    let mut missing = 0;
+    for (place, way) in extract.ways.as_slice().iter().enumerate() {
+        if is_routable(&way.tags) {
+            routable += 1;
+            missing += add_way(&mut lines, nodes, place, way.refs.as_slice())?;
+        }
+    }
+    Ok(Survey {
+        lines,
+        ways: routable,
+        missing,
+    })
+}
+
+/// Adds the runs of a way to the lines, and says how many of its refs name no node.
+fn add_way(
+    lines: &mut Lines,
+    nodes: &[OsmNode],
+    way: usize,
+    refs: &[i64],
+) -> Result<u64, AllocError>
+    requires rises { NodesRise nodes.now }
+    requires few { length nodes.now ≤ 10_000_000 }
+    requires short { length refs.now ≤ 20_000_000 }
+    requires whole { lines.old.begun ≡ [] }
+    ensures done { OnOk result (lines.new.done ≡ lines.old.done ++ lines_from nodes.now way 0 [] refs.now) }
+    ensures begun { OnOk result (lines.new.begun ≡ []) }
+    ensures missing { IfOk result (λ n. n ≡ count_by (λ id. not (has_node nodes.now id)) refs.now) }
+{
+    let mut number = 0;
+    let mut missing = 0;
+    let mut guess = 0;
+    for id in refs {
+        match find_node(nodes, id, guess) {
+            Some(place) => {
+                lines.extend(place as u32)?;
+                guess = place + 1;
+            }
+            None => {
+                if lines.close(way, number)? {
+                    number += 1;
+                }
+                missing += 1;
+            }
+        }
+    }
+    lines.close(way, number)?;
+    Ok(missing)
+}
