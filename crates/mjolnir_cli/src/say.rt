@@ -1,6 +1,6 @@
 //! What is said: the text of a command that is done, or the line of a failure.
 
-ghost use Rattle.std.specs.Prelude.{◌≡◌, ◌≢◌, ◌⊎◌};
+ghost use Rattle.std.specs.Prelude.{◌≡◌, ◌≢◌, ◌⊎◌, []};
 ghost use Rattle.host_port.specs.Faults.{Rose};
 ghost use Rattle.mjolnir_cli.specs.Failures.{status_of, line_of};
 ghost use Rattle.mjolnir_cli.specs.Said.{Adds, SaysLine, OnlySaid};
@@ -16,6 +16,8 @@ pub(crate) fn say_text<H: Host>(alloc: Global, host: &mut H, text: &str) -> u8
     ensures done { result ≡ 0 → Adds text.now (H.told host.old) (H.told host.new) }
     ensures heard { result ≡ 0 → H.say_faults host.new ≡ H.say_faults host.old }
     ensures memory { result ≡ 7 → Adds (line_of OutOfMemory) (H.told host.old) (H.told host.new) ⊎ ((H.told host.new).said ≡ (H.told host.old).said) }
+    // Nothing is called for an empty text, so nothing can fail.
+    ensures empty { result ≡ 9 → text.now ≢ [] }
     ensures lost { result ≡ 9 → (H.told host.new).said ≡ (H.told host.old).said }
     ensures rose { result ≡ 9 → Rose (H.say_faults host.old) (H.say_faults host.new) }
     ensures others { OnlySaid (H.told host.old) (H.told host.new) }

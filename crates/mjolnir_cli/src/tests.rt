@@ -109,6 +109,15 @@ fn rows(rt: HostRuntime) -> Result<(), Fail> {
     Ok(())
 }
 
+// An input without blobs has an empty text, for which the host isn't called.
+#[test]
+fn empty_input(rt: HostRuntime) -> Result<(), Fail> {
+    let (status, host) = blobs_of(&rt, &[], 65_536)?;
+    assert_eq!(rt; status, 0);
+    assert_eq!(rt; host.calls, 2);
+    Ok(())
+}
+
 // Where the two triples are cut, each part of them names the place where it begins.
 #[test]
 fn cut_at_each_byte(rt: HostRuntime) -> Result<(), Fail> {

@@ -1,6 +1,6 @@
 //! The top call: all that the program does.
 
-ghost use Rattle.std.specs.Prelude.{◌≡◌, ◌≢◌, ◌⊎◌, ℕ, List, ◌++◌, map, length, Some, None, IsSome, IfOk, IfErr, OnOk};
+ghost use Rattle.std.specs.Prelude.{◌≡◌, ◌≢◌, ◌⊎◌, ℕ, List, ◌++◌, map, length, Some, None, IsSome, IfOk, IfErr, OnOk, []};
 ghost use Rattle.std.specs.String.{string_bytes};
 ghost use Rattle.host_port.specs.Told.{named};
 ghost use Rattle.host_port.specs.Faults.{Rose};
@@ -70,12 +70,13 @@ pub fn mjolnir<R: Threads + Sync, H: Host, G: Gate>(
     // 7: nothing is said but its own line.
     ensures memory { result ≡ 7 → Adds (line_of OutOfMemory) (H.told host.old) (H.told host.new) ⊎ ((H.told host.new).said ≡ (H.told host.old).said) }
 
-    // 9: exactly where the count of faults of saying rose while the text of a request that is done was said.
+    // 9: exactly where the count of faults of saying rose while the text of a request that is done was said;
+    // an empty text isn't said.
     ensures say { result ≡ 9 → Rose (H.say_faults host.old) (H.say_faults host.new) }
     ensures say_only { result ≡ 0 → H.say_faults host.new ≡ H.say_faults host.old }
     ensures say_lost { result ≡ 9 → (H.told host.new).said ≡ (H.told host.old).said }
     ensures say_done { result ≡ 9 → (request : Request) (bytes : List ℕ) → Asks (asked_by (map string_bytes words.now)) (H.told host.old) request bytes
-        → (text : List ℕ) × IsAnswer request bytes text }
+        → (text : List ℕ) × IsAnswer request bytes text × (text ≢ []) }
 
     // Whatever the status, no file is put or changed.
     ensures files { (H.told host.new).files ≡ (H.told host.old).files }
