@@ -61,9 +61,10 @@ stored path bytes [] = (path, bytes) ∷ []
 stored path bytes (file ∷ files) = if bytes_eq path file.0 then (path, bytes) ∷ files else file ∷ stored path bytes files
 
 -- After an Ok of put the file of that path holds exactly these bytes, the path is the last of those put,
--- and no input is open.
+-- and no input is open; the place is still that which was reached in the input.
 pub record Stored (path bytes : List ℕ) (old new : Told) : Type 0 where
   pub files : new.files ≡ option_map (stored path bytes) old.files
   pub is_open : new.is_open ≡ option_map (λ _. false) old.is_open
+  pub place : new.place ≡ old.place
   pub puts : new.puts ≡ option_map (λ puts. puts ++ path ∷ []) old.puts
   pub said : new.said ≡ old.said
