@@ -7,7 +7,7 @@ use Rattle.std.proofs.lemmas.List.{take-append-drop, length-take, take_at, drop_
 use Rattle.wire_read.specs.declared.fault.WireFault.{WireFault}
 use Rattle.wire_read.specs.declared.fault.WireFault.TheVariants as faults
 use Rattle.wire_read.specs.Varint.{IsVarint, AreBytes, VarintOutcome, Spelled, Short, Long, varint_of}
-use Rattle.wire_read.specs.Fields.{Content, Varint, Fixed64, Bytes, Fixed32, IsKind, IsBody, IsCut, IsEndless, EndsInBody, EndlessBody, IsFieldNumber, ◌>>=◌, varint_read, varint_at, part_at, number_at, varint_body, fixed64_body, bytes_body, fixed32_body, body_at}
+use Rattle.wire_read.specs.Fields.{Content, Varint, Fixed64, Bytes, Fixed32, IsKind, IsBody, IsCut, IsEndless, EndsInBody, EndlessBody, IsFieldNumber, ◌>>=◌, varint_read, varint_at, part_at, number_at, varint_body, fixed64_body, bytes_body, fixed32_body, body_of}
 use Rattle.wire_read.proofs.Groups.{varint_of-shorter}
 use Rattle.wire_read.proofs.Grammar.{outcome_is_by_grammar, varint_of-front, short_both, long_both}
 
@@ -256,39 +256,39 @@ bytes_body_found at bytes x are e =
     (spelled.0 ++ c.0.0, (refl, (spelled.0, count, refl)), split)
 
 -- a body that is read is one by the grammar
-pub body_found : (at kind : ℕ) (bytes : List ℕ) (x : Content × List ℕ) → AreBytes bytes → IsKind kind → body_at at kind bytes ≡ Ok x → (front : List ℕ) × IsBody kind front x.0 × (bytes ≡ front ++ x.1)
-unfolding body_at
+pub body_found : (at kind : ℕ) (bytes : List ℕ) (x : Content × List ℕ) → AreBytes bytes → IsKind kind → body_of at kind bytes ≡ Ok x → (front : List ℕ) × IsBody kind front x.0 × (bytes ≡ front ++ x.1)
+unfolding body_of
 body_found at kind bytes x are (inl k) e =
     let Found : ℕ → Type 0 = λ j. (front : List ℕ) × IsBody j front x.0 × (bytes ≡ front ++ x.1) in
-    subst Found (sym k) (varint_body_found at bytes x are (sym (ap (λ j. body_at at j bytes) k) ∙ e))
+    subst Found (sym k) (varint_body_found at bytes x are (sym (ap (λ j. body_of at j bytes) k) ∙ e))
 body_found at kind bytes x are (inr (inl k)) e =
     let Found : ℕ → Type 0 = λ j. (front : List ℕ) × IsBody j front x.0 × (bytes ≡ front ++ x.1) in
-    subst Found (sym k) (fixed64_body_found at bytes x (sym (ap (λ j. body_at at j bytes) k) ∙ e))
+    subst Found (sym k) (fixed64_body_found at bytes x (sym (ap (λ j. body_of at j bytes) k) ∙ e))
 body_found at kind bytes x are (inr (inr (inl k))) e =
     let Found : ℕ → Type 0 = λ j. (front : List ℕ) × IsBody j front x.0 × (bytes ≡ front ++ x.1) in
-    subst Found (sym k) (bytes_body_found at bytes x are (sym (ap (λ j. body_at at j bytes) k) ∙ e))
+    subst Found (sym k) (bytes_body_found at bytes x are (sym (ap (λ j. body_of at j bytes) k) ∙ e))
 body_found at kind bytes x are (inr (inr (inr k))) e =
     let Found : ℕ → Type 0 = λ j. (front : List ℕ) × IsBody j front x.0 × (bytes ≡ front ++ x.1) in
-    subst Found (sym k) (fixed32_body_found at bytes x (sym (ap (λ j. body_at at j bytes) k) ∙ e))
+    subst Found (sym k) (fixed32_body_found at bytes x (sym (ap (λ j. body_of at j bytes) k) ∙ e))
 
 -- a body by the grammar is read
-pub body_at-front : (at kind : ℕ) (front rest : List ℕ) (content : Content) → IsBody kind front content → body_at at kind (front ++ rest) ≡ Ok (content, rest)
-unfolding body_at varint_body fixed64_body bytes_body fixed32_body
-body_at-front at kind front rest (Varint n) is =
-    ap (λ j. body_at at j (front ++ rest)) is.0 ∙ ap (λ r. r >>= λ m. Ok (Varint m.0, m.1)) (varint_at-front at front rest n is.1)
-body_at-front at kind front rest (Fixed64 n) is =
-    ap (λ j. body_at at j (front ++ rest)) is.0
+pub body_of-front : (at kind : ℕ) (front rest : List ℕ) (content : Content) → IsBody kind front content → body_of at kind (front ++ rest) ≡ Ok (content, rest)
+unfolding body_of varint_body fixed64_body bytes_body fixed32_body
+body_of-front at kind front rest (Varint n) is =
+    ap (λ j. body_of at j (front ++ rest)) is.0 ∙ ap (λ r. r >>= λ m. Ok (Varint m.0, m.1)) (varint_at-front at front rest n is.1)
+body_of-front at kind front rest (Fixed64 n) is =
+    ap (λ j. body_of at j (front ++ rest)) is.0
     ∙ ap (λ r. r >>= λ part. Ok (Fixed64 (from_le_bytes w64 part.0), part.1)) (part_at-front at 8 front rest is.1)
     ∙ ap (λ m. Ok (Fixed64 m, rest)) (sym is.2)
-body_at-front at kind front rest (Bytes inner) is =
+body_of-front at kind front rest (Bytes inner) is =
     let count = is.1.0 in
     let split : front ++ rest ≡ count ++ (inner ++ rest) = ap (λ (p : List ℕ). p ++ rest) is.1.2 ∙ append_assoc count inner rest in
-    ap (λ j. body_at at j (front ++ rest)) is.0
-    ∙ ap (λ p. body_at at 2 p) split
+    ap (λ j. body_of at j (front ++ rest)) is.0
+    ∙ ap (λ p. body_of at 2 p) split
     ∙ ap (λ r. r >>= λ m. part_at at m.0 m.1 >>= λ part. Ok (Bytes part.0, part.1)) (varint_at-front at count (inner ++ rest) (length inner) is.1.1)
     ∙ ap (λ r. r >>= λ part. Ok (Bytes part.0, part.1)) (part_at-front at (length inner) inner rest refl)
-body_at-front at kind front rest (Fixed32 n) is =
-    ap (λ j. body_at at j (front ++ rest)) is.0
+body_of-front at kind front rest (Fixed32 n) is =
+    ap (λ j. body_of at j (front ++ rest)) is.0
     ∙ ap (λ r. r >>= λ part. Ok (Fixed32 (from_le_bytes w32 part.0), part.1)) (part_at-front at 4 front rest is.1)
     ∙ ap (λ m. Ok (Fixed32 m, rest)) (sym is.2)
 
@@ -346,64 +346,64 @@ bytes_missing at bytes d are e =
       ]
     ]
 
-pub body_missing : (at kind : ℕ) (bytes : List ℕ) (d : WireFault) → AreBytes bytes → IsKind kind → body_at at kind bytes ≡ Err d → Missing at kind bytes d
-unfolding body_at
+pub body_missing : (at kind : ℕ) (bytes : List ℕ) (d : WireFault) → AreBytes bytes → IsKind kind → body_of at kind bytes ≡ Err d → Missing at kind bytes d
+unfolding body_of
 body_missing at kind bytes d are (inl k) e =
-    subst (λ (j : ℕ). Missing at j bytes d) (sym k) (varint_missing at bytes d are (sym (ap (λ j. body_at at j bytes) k) ∙ e))
+    subst (λ (j : ℕ). Missing at j bytes d) (sym k) (varint_missing at bytes d are (sym (ap (λ j. body_of at j bytes) k) ∙ e))
 body_missing at kind bytes d are (inr (inl k)) e =
-    subst (λ (j : ℕ). Missing at j bytes d) (sym k) (fixed64_missing at bytes d (sym (ap (λ j. body_at at j bytes) k) ∙ e))
+    subst (λ (j : ℕ). Missing at j bytes d) (sym k) (fixed64_missing at bytes d (sym (ap (λ j. body_of at j bytes) k) ∙ e))
 body_missing at kind bytes d are (inr (inr (inl k))) e =
-    subst (λ (j : ℕ). Missing at j bytes d) (sym k) (bytes_missing at bytes d are (sym (ap (λ j. body_at at j bytes) k) ∙ e))
+    subst (λ (j : ℕ). Missing at j bytes d) (sym k) (bytes_missing at bytes d are (sym (ap (λ j. body_of at j bytes) k) ∙ e))
 body_missing at kind bytes d are (inr (inr (inr k))) e =
-    subst (λ (j : ℕ). Missing at j bytes d) (sym k) (fixed32_missing at bytes d (sym (ap (λ j. body_at at j bytes) k) ∙ e))
+    subst (λ (j : ℕ). Missing at j bytes d) (sym k) (fixed32_missing at bytes d (sym (ap (λ j. body_of at j bytes) k) ∙ e))
 
 -- where the bytes end inside a body, reading it answers Short
-pub body_at-cut : (at kind : ℕ) (bytes : List ℕ) → EndsInBody kind bytes → body_at at kind bytes ≡ Err (faults.Short at)
-unfolding body_at varint_body fixed64_body bytes_body fixed32_body
-body_at-cut at kind bytes (inl h) =
-    ap (λ j. body_at at j bytes) h.0 ∙ ap (λ r. r >>= λ m. Ok (Varint m.0, m.1)) (varint_at-cut at bytes h.1)
-body_at-cut at kind bytes (inr (inl h)) =
-    ap (λ j. body_at at j bytes) h.0 ∙ ap (λ r. r >>= λ part. Ok (Fixed64 (from_le_bytes w64 part.0), part.1)) (part_at-cut at 8 bytes h.1)
-body_at-cut at kind bytes (inr (inr (inl (k, inl cut)))) =
-    ap (λ j. body_at at j bytes) k ∙ ap (λ r. r >>= λ m. part_at at m.0 m.1 >>= λ part. Ok (Bytes part.0, part.1)) (varint_at-cut at bytes cut)
-body_at-cut at kind bytes (inr (inr (inl (k, inr h)))) =
-    ap (λ j. body_at at j bytes) k
-    ∙ ap (λ p. body_at at 2 p) h.2.2
+pub body_of-cut : (at kind : ℕ) (bytes : List ℕ) → EndsInBody kind bytes → body_of at kind bytes ≡ Err (faults.Short at)
+unfolding body_of varint_body fixed64_body bytes_body fixed32_body
+body_of-cut at kind bytes (inl h) =
+    ap (λ j. body_of at j bytes) h.0 ∙ ap (λ r. r >>= λ m. Ok (Varint m.0, m.1)) (varint_at-cut at bytes h.1)
+body_of-cut at kind bytes (inr (inl h)) =
+    ap (λ j. body_of at j bytes) h.0 ∙ ap (λ r. r >>= λ part. Ok (Fixed64 (from_le_bytes w64 part.0), part.1)) (part_at-cut at 8 bytes h.1)
+body_of-cut at kind bytes (inr (inr (inl (k, inl cut)))) =
+    ap (λ j. body_of at j bytes) k ∙ ap (λ r. r >>= λ m. part_at at m.0 m.1 >>= λ part. Ok (Bytes part.0, part.1)) (varint_at-cut at bytes cut)
+body_of-cut at kind bytes (inr (inr (inl (k, inr h)))) =
+    ap (λ j. body_of at j bytes) k
+    ∙ ap (λ p. body_of at 2 p) h.2.2
     ∙ ap (λ r. r >>= λ m. part_at at m.0 m.1 >>= λ part. Ok (Bytes part.0, part.1)) (varint_at-front at h.0 h.1 h.2.0 h.2.1)
     ∙ ap (λ r. r >>= λ part. Ok (Bytes part.0, part.1)) (part_at-cut at h.2.0 h.1 h.2.3)
-body_at-cut at kind bytes (inr (inr (inr h))) =
-    ap (λ j. body_at at j bytes) h.0 ∙ ap (λ r. r >>= λ part. Ok (Fixed32 (from_le_bytes w32 part.0), part.1)) (part_at-cut at 4 bytes h.1)
+body_of-cut at kind bytes (inr (inr (inr h))) =
+    ap (λ j. body_of at j bytes) h.0 ∙ ap (λ r. r >>= λ part. Ok (Fixed32 (from_le_bytes w32 part.0), part.1)) (part_at-cut at 4 bytes h.1)
 
 -- where its varint doesn't end, reading it answers LongVarint
-pub body_at-endless : (at kind : ℕ) (bytes : List ℕ) → EndlessBody kind bytes → body_at at kind bytes ≡ Err (faults.LongVarint at)
-unfolding body_at varint_body bytes_body
-body_at-endless at kind bytes (inl k, endless) =
-    ap (λ j. body_at at j bytes) k ∙ ap (λ r. r >>= λ m. Ok (Varint m.0, m.1)) (varint_at-endless at bytes endless)
-body_at-endless at kind bytes (inr k, endless) =
-    ap (λ j. body_at at j bytes) k ∙ ap (λ r. r >>= λ m. part_at at m.0 m.1 >>= λ part. Ok (Bytes part.0, part.1)) (varint_at-endless at bytes endless)
+pub body_of-endless : (at kind : ℕ) (bytes : List ℕ) → EndlessBody kind bytes → body_of at kind bytes ≡ Err (faults.LongVarint at)
+unfolding body_of varint_body bytes_body
+body_of-endless at kind bytes (inl k, endless) =
+    ap (λ j. body_of at j bytes) k ∙ ap (λ r. r >>= λ m. Ok (Varint m.0, m.1)) (varint_at-endless at bytes endless)
+body_of-endless at kind bytes (inr k, endless) =
+    ap (λ j. body_of at j bytes) k ∙ ap (λ r. r >>= λ m. part_at at m.0 m.1 >>= λ part. Ok (Bytes part.0, part.1)) (varint_at-endless at bytes endless)
 
 -- ---- nothing is read twice
 
 -- what follows a body isn't longer than what begins with it
-pub body_at-shorter : (at kind : ℕ) (bytes : List ℕ) (x : Content × List ℕ) → IsKind kind → body_at at kind bytes ≡ Ok x → length x.1 ≤ length bytes
-unfolding body_at varint_body fixed64_body bytes_body fixed32_body
-body_at-shorter at kind bytes x (inl k) e =
-    let b = bind_ok (varint_at at bytes) (λ n. Ok (Varint n.0, n.1)) x (sym (ap (λ j. body_at at j bytes) k) ∙ e) in
+pub body_of-shorter : (at kind : ℕ) (bytes : List ℕ) (x : Content × List ℕ) → IsKind kind → body_of at kind bytes ≡ Ok x → length x.1 ≤ length bytes
+unfolding body_of varint_body fixed64_body bytes_body fixed32_body
+body_of-shorter at kind bytes x (inl k) e =
+    let b = bind_ok (varint_at at bytes) (λ n. Ok (Varint n.0, n.1)) x (sym (ap (λ j. body_of at j bytes) k) ∙ e) in
     let same = ap (λ (p : Content × List ℕ). length p.1) (ok_is (Varint b.0.0, b.0.1) x b.2) in
     omega (arith, same, varint_of-shorter bytes b.0.0 b.0.1 (varint_at_ok at bytes b.0 b.1))
-body_at-shorter at kind bytes x (inr (inl k)) e =
-    let b = bind_ok (part_at at 8 bytes) (λ part. Ok (Fixed64 (from_le_bytes w64 part.0), part.1)) x (sym (ap (λ j. body_at at j bytes) k) ∙ e) in
+body_of-shorter at kind bytes x (inr (inl k)) e =
+    let b = bind_ok (part_at at 8 bytes) (λ part. Ok (Fixed64 (from_le_bytes w64 part.0), part.1)) x (sym (ap (λ j. body_of at j bytes) k) ∙ e) in
     let same = ap (λ (p : Content × List ℕ). length p.1) (ok_is (Fixed64 (from_le_bytes w64 b.0.0), b.0.1) x b.2) in
     let part = part_at_ok at 8 bytes b.0 b.1 in
     omega (arith, same, ap length part.1, length-append b.0.0 b.0.1)
-body_at-shorter at kind bytes x (inr (inr (inl k))) e =
-    let b = bind_ok (varint_at at bytes) (λ n. part_at at n.0 n.1 >>= λ part. Ok (Bytes part.0, part.1)) x (sym (ap (λ j. body_at at j bytes) k) ∙ e) in
+body_of-shorter at kind bytes x (inr (inr (inl k))) e =
+    let b = bind_ok (varint_at at bytes) (λ n. part_at at n.0 n.1 >>= λ part. Ok (Bytes part.0, part.1)) x (sym (ap (λ j. body_of at j bytes) k) ∙ e) in
     let c = bind_ok (part_at at b.0.0 b.0.1) (λ part. Ok (Bytes part.0, part.1)) x b.2 in
     let same = ap (λ (p : Content × List ℕ). length p.1) (ok_is (Bytes c.0.0, c.0.1) x c.2) in
     let part = part_at_ok at b.0.0 b.0.1 c.0 c.1 in
     omega (arith, same, ap length part.1, length-append c.0.0 c.0.1, varint_of-shorter bytes b.0.0 b.0.1 (varint_at_ok at bytes b.0 b.1))
-body_at-shorter at kind bytes x (inr (inr (inr k))) e =
-    let b = bind_ok (part_at at 4 bytes) (λ part. Ok (Fixed32 (from_le_bytes w32 part.0), part.1)) x (sym (ap (λ j. body_at at j bytes) k) ∙ e) in
+body_of-shorter at kind bytes x (inr (inr (inr k))) e =
+    let b = bind_ok (part_at at 4 bytes) (λ part. Ok (Fixed32 (from_le_bytes w32 part.0), part.1)) x (sym (ap (λ j. body_of at j bytes) k) ∙ e) in
     let same = ap (λ (p : Content × List ℕ). length p.1) (ok_is (Fixed32 (from_le_bytes w32 b.0.0), b.0.1) x b.2) in
     let part = part_at_ok at 4 bytes b.0 b.1 in
     omega (arith, same, ap length part.1, length-append b.0.0 b.0.1)

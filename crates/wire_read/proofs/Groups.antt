@@ -100,3 +100,36 @@ groups_within-shorter (suc room) (b ∷ bytes) number rest e =
 pub varint_of-shorter : (bytes : List ℕ) (value : ℕ) (rest : List ℕ) → varint_of bytes ≡ Spelled value rest → length rest < length bytes
 unfolding varint_of
 varint_of-shorter bytes value rest e = modulo-shorter (groups_within 10 bytes) value rest (length bytes) (λ number rest'. groups_within-shorter 10 bytes number rest') e
+
+-- ---- varints of one, two and three bytes
+
+below_2_64 : (n : ℕ) (rest : List ℕ) → n < 2 ^ 64 → modulo_2_64 (Spelled n rest) ≡ Spelled n rest
+below_2_64 n rest below = ap (λ m. Spelled m rest) (omega arith)
+
+pub varint_of-one : (bytes rest : List ℕ) (a : ℕ) → bytes ≡ a ∷ rest → a < 128 → varint_of bytes ≡ Spelled a rest
+unfolding varint_of
+varint_of-one bytes rest a is last =
+    ap varint_of is
+    ∙ ap modulo_2_64 (groups_within-last 9 a rest last)
+    ∙ below_2_64 a rest (omega arith)
+
+pub varint_of-two : (bytes behind rest : List ℕ) (a b : ℕ) → bytes ≡ a ∷ behind → 128 ≤ a → behind ≡ b ∷ rest → b < 128 → varint_of bytes ≡ Spelled (a % 128 + 128 * b) rest
+unfolding varint_of
+varint_of-two bytes behind rest a b is on behind_is last =
+    ap varint_of is
+    ∙ ap modulo_2_64 (groups_within-on 9 a behind on
+    ∙ ap (λ xs. after_group (a % 128) (groups_within 9 xs)) behind_is
+    ∙ ap (after_group (a % 128)) (groups_within-last 8 b rest last))
+    ∙ below_2_64 (a % 128 + 128 * b) rest (omega arith)
+
+pub varint_of-three : (bytes behind far rest : List ℕ) (a b c : ℕ) → bytes ≡ a ∷ behind → 128 ≤ a → behind ≡ b ∷ far → 128 ≤ b → far ≡ c ∷ rest → c < 128
+    → varint_of bytes ≡ Spelled (a % 128 + 128 * (b % 128 + 128 * c)) rest
+unfolding varint_of
+varint_of-three bytes behind far rest a b c is on behind_is too far_is last =
+    ap varint_of is
+    ∙ ap modulo_2_64 (groups_within-on 9 a behind on
+    ∙ ap (λ xs. after_group (a % 128) (groups_within 9 xs)) behind_is
+    ∙ ap (after_group (a % 128)) (groups_within-on 8 b far too
+    ∙ ap (λ xs. after_group (b % 128) (groups_within 8 xs)) far_is
+    ∙ ap (after_group (b % 128)) (groups_within-last 7 c rest last)))
+    ∙ below_2_64 (a % 128 + 128 * (b % 128 + 128 * c)) rest (omega arith)

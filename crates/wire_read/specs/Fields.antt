@@ -1,5 +1,5 @@
 -- The fields of a message (protobuf.dev, "Encoding", "Message Structure"): each is a tag and a body.
-use Rattle.std.specs.Prelude.{◌≡◌, ℕ, zero, suc, ◌+◌, ◌-◌, ◌*◌, ◌/◌, ◌%◌, ◌<◌, ◌≤◌, nat_lt, ◌==◌, ◌||◌, if◌then◌else◌, ◌⊎◌, true, false, List, [], ◌∷◌, ◌++◌, length, take, drop, Option, Some, None, Result, Ok, Err}
+use Rattle.std.specs.Prelude.{◌≡◌, ℕ, zero, suc, ◌+◌, ◌-◌, ◌*◌, ◌/◌, ◌%◌, ◌^◌, ◌<◌, ◌≤◌, nat_lt, ◌==◌, ◌||◌, if◌then◌else◌, ◌⊎◌, true, false, List, [], ◌∷◌, ◌++◌, length, take, drop, Option, Some, None, Result, Ok, Err}
 use Rattle.std.specs.Int.{w32, w64, from_le_bytes}
 use Rattle.std.specs.Iterator.{Count, at_most}
 use Rattle.wire_read.specs.declared.fault.WireFault.{WireFault}
@@ -19,11 +19,19 @@ pub data Content : Type 0 where
   Bytes : List ℕ → Content
   Fixed32 : ℕ → Content
 
--- a field: its number, the place of its first byte, and what it holds
+-- a field: its number, the places of its first byte and of its body, and what it holds
 pub record WireField : Type 0 where
   pub number : ℕ
   pub at : ℕ
+  pub body_at : ℕ
   pub content : Content
+
+-- how many bytes of the message it holds as they are
+abbrev pub inner_length : Content → ℕ
+inner_length (Varint n) = 0
+inner_length (Fixed64 n) = 0
+inner_length (Bytes inner) = length inner
+inner_length (Fixed32 n) = 0
 
 -- what a body of the program holds
 abbrev pub content_of : Body → Content
@@ -34,7 +42,7 @@ content_of (bodies.Fixed32 n) = Fixed32 n
 
 -- a field of the program, as these definitions see it
 abbrev pub seen : Field → WireField
-seen field = record { number = field.number; at = field.at; content = content_of field.body }
+seen field = record { number = field.number; at = field.at; body_at = field.body_at; content = content_of field.body }
 
 -- ---- the grammar
 
@@ -49,6 +57,14 @@ IsBody kind bytes (Fixed64 n) = (kind ≡ 1) × (length bytes ≡ 8) × (n ≡ f
 IsBody kind bytes (Bytes inner) = (kind ≡ 2) × ((front : List ℕ) × IsVarint front (length inner) × (bytes ≡ front ++ inner))
 IsBody kind bytes (Fixed32 n) = (kind ≡ 5) × (length bytes ≡ 4) × (n ≡ from_le_bytes w32 bytes)
 
+-- how far behind the first byte of a field its body stands, where its tag and the whole of it have so many bytes:
+-- behind the tag; bytes stand behind their length too, at the end of the field
+abbrev pub body_offset : ℕ → ℕ → Content → ℕ
+body_offset tag whole (Varint n) = tag
+body_offset tag whole (Fixed64 n) = tag
+body_offset tag whole (Bytes inner) = whole - length inner
+body_offset tag whole (Fixed32 n) = tag
+
 -- The bytes are a field: a tag, which is a varint of the number and the wire type, and a body.
 pub record IsField (bytes : List ℕ) (field : WireField) : Type 0 where
   pub tag : List ℕ
@@ -59,6 +75,7 @@ pub record IsField (bytes : List ℕ) (field : WireField) : Type 0 where
   pub least : 1 ≤ field.number
   pub greatest : field.number ≤ 536_870_911
   pub is_body : IsBody kind body field.content
+  pub body_place : field.body_at ≡ field.at + body_offset (length tag) (length bytes) field.content
 
 -- the bytes spell these fields, one after the other, and nothing more; the first byte stands at base
 abbrev pub SpellsFields : List ℕ → ℕ → List WireField → Type 0
@@ -171,20 +188,24 @@ fixed32_body at bytes = do
   part ← part_at at 4 bytes
   Ok (Fixed32 (from_le_bytes w32 part.0), part.1)
 
-unfoldable pub body_at : ℕ → ℕ → List ℕ → Result (Content × List ℕ) WireFault
-body_at at kind bytes =
+unfoldable pub body_of : ℕ → ℕ → List ℕ → Result (Content × List ℕ) WireFault
+body_of at kind bytes =
     if kind == 0 then varint_body at bytes
     else (if kind == 1 then fixed64_body at bytes
     else (if kind == 2 then bytes_body at bytes
     else fixed32_body at bytes))
+
+-- a field at this place, whose tag and whole have so many bytes
+abbrev pub field_at : ℕ → ℕ → ℕ → ℕ → Content → WireField
+field_at at number tag whole content = record { number = number; at = at; body_at = at + body_offset tag whole content; content = content }
 
 -- the field that begins the bytes and the bytes after it, or the fault; the first byte stands at this place
 unfoldable pub field_of : ℕ → List ℕ → Result (WireField × List ℕ) WireFault
 field_of at bytes = do
   tag ← varint_at at bytes
   number ← number_at at tag.0
-  body ← body_at at (tag.0 % 8) tag.1
-  Ok (record { number = number; at = at; content = body.0 }, body.1)
+  body ← body_of at (tag.0 % 8) tag.1
+  Ok (field_at at number (length bytes - length tag.1) (length bytes - length body.1) body.0, body.1)
 
 -- ---- the whole list, computed
 
@@ -252,9 +273,11 @@ fields_left s = at_most (if s.broken then 0 else length s.rest)
 
 -- What a call answers, and what it leaves:
 -- nothing exactly at the end or after a fault, and the reader stays as it is;
--- a field where it comes next, and the reader stands behind it;
+-- a field where it comes next, and the reader stands behind it and behind the bytes that it holds;
 -- the fault of the place where no field comes next, and the reader stays there, broken.
 abbrev pub NextField : Unread → Option (Result Field WireFault) → Unread → Type 0
 NextField old None new = ((old.rest ≡ []) ⊎ (old.broken ≡ true)) × (new ≡ old)
-NextField old (Some (Ok field)) new = (old.broken ≡ false) × (field_of old.at old.rest ≡ Ok (seen field, new.rest)) × (new.at + length new.rest ≡ old.at + length old.rest) × (new.broken ≡ false)
+NextField old (Some (Ok field)) new =
+    (old.broken ≡ false) × (field_of old.at old.rest ≡ Ok (seen field, new.rest)) × (new.at + length new.rest ≡ old.at + length old.rest) × (new.broken ≡ false)
+    × (field.body_at + inner_length (content_of field.body) ≤ new.at) × (new.at < 2 ^ 64)
 NextField old (Some (Err fault)) new = (old.broken ≡ false) × (0 < length old.rest) × (field_of old.at old.rest ≡ Err fault) × (new ≡ record old { broken = true })

@@ -1,8 +1,8 @@
 //! The fields of a message: a tag and a body each, one after the other to the end of a slice.
-ghost use Rattle.std.specs.Prelude.{◌≡◌, ◌+◌, ◌-◌, ◌%◌, ◌<◌, ◌^◌, ℕ, List, Ok, Err, false, length, ◌≤◌, IfOk, IfErr};
+ghost use Rattle.std.specs.Prelude.{◌≡◌, ◌+◌, ◌<◌, ◌^◌, ℕ, List, Ok, Err, false, length, ◌≤◌, IfOk, IfErr};
 ghost use Rattle.wire_read.specs.Varint.{AreBytes};
 ghost use Rattle.wire_read.specs.Numbers.{Unread};
-ghost use Rattle.wire_read.specs.Fields.{seen, content_of, part_at, number_at, varint_body, fixed64_body, bytes_body, fixed32_body, body_at, field_of, NextField, fields_left, IsMessageOneWay, PackedIsComputed};
+ghost use Rattle.wire_read.specs.Fields.{seen, content_of, part_at, number_at, varint_body, fixed64_body, bytes_body, fixed32_body, body_of, inner_length, body_offset, field_of, NextField, fields_left, IsMessageOneWay, PackedIsComputed};
 
 use crate::fault::WireFault;
 use crate::varint::read_varint;
@@ -21,11 +21,13 @@ pub enum Body<'a> {
     Fixed32(u32),
 }
 
-/// A field of a message. `at` is the place of its first byte.
+/// A field of a message. `at` is the place of its first byte. `body_at` is the place of the first of the bytes that
+/// it holds, and the place behind its tag where it holds a number; a message in it is read from there on.
 #[derive(Clone, Copy, Debug, PartialEq, Eq)]
 pub struct Field<'a> {
     pub number: u32,
     pub at: u64,
+    pub body_at: u64,
     pub body: Body<'a>,
 }
 
@@ -33,7 +35,7 @@ pub struct Field<'a> {
 /// So many bytes and those after them.
 fn read_part(bytes: &[u8], at: u64, count: u64) -> Result<(&[u8], &[u8]), WireFault>
     ensures part { IfOk result (λ found. part_at at count bytes.now ≡ Ok (found.0.now, found.1.now)) }
-    ensures shorter { IfOk result (λ found. length found.1.now ≡ length bytes.now - count) }
+    ensures lengths { IfOk result (λ found. length found.1.now + length found.0.now ≡ length bytes.now) }
     ensures fault { IfErr result (λ fault. part_at at count bytes.now ≡ Err fault) }
 {
     if (bytes.len() as u64) < count {
@@ -62,7 +64,7 @@ fn field_number(tag: u64, at: u64) -> Result<u32, WireFault>
 #[tactic(auto, unfolding(crate::specs::Fields::varint_body))]
 fn read_varint_body(bytes: &[u8], at: u64) -> Result<(Body<'_>, &[u8]), WireFault>
     ensures body { IfOk result (λ found. varint_body at bytes.now ≡ Ok (content_of found.0, found.1.now)) }
-    ensures shorter { IfOk result (λ found. length found.1.now ≤ length bytes.now) }
+    ensures room { IfOk result (λ found. length found.1.now + inner_length (content_of found.0) ≤ length bytes.now) }
     ensures fault { IfErr result (λ fault. varint_body at bytes.now ≡ Err fault) }
 {
     let (value, rest) = read_varint(bytes, at)?;
@@ -72,7 +74,7 @@ fn read_varint_body(bytes: &[u8], at: u64) -> Result<(Body<'_>, &[u8]), WireFaul
 #[tactic(auto, unfolding(crate::specs::Fields::fixed64_body, crate::specs::Fields::part_at))]
 fn read_fixed64_body(bytes: &[u8], at: u64) -> Result<(Body<'_>, &[u8]), WireFault>
     ensures body { IfOk result (λ found. fixed64_body at bytes.now ≡ Ok (content_of found.0, found.1.now)) }
-    ensures shorter { IfOk result (λ found. length found.1.now ≤ length bytes.now) }
+    ensures room { IfOk result (λ found. length found.1.now + inner_length (content_of found.0) ≤ length bytes.now) }
     ensures fault { IfErr result (λ fault. fixed64_body at bytes.now ≡ Err fault) }
 {
     let Some((word, rest)) = bytes.split_first_chunk::<8>() else {
@@ -84,7 +86,7 @@ fn read_fixed64_body(bytes: &[u8], at: u64) -> Result<(Body<'_>, &[u8]), WireFau
 #[tactic(auto, unfolding(crate::specs::Fields::bytes_body))]
 fn read_bytes_body(bytes: &[u8], at: u64) -> Result<(Body<'_>, &[u8]), WireFault>
     ensures body { IfOk result (λ found. bytes_body at bytes.now ≡ Ok (content_of found.0, found.1.now)) }
-    ensures shorter { IfOk result (λ found. length found.1.now ≤ length bytes.now) }
+    ensures room { IfOk result (λ found. length found.1.now + inner_length (content_of found.0) ≤ length bytes.now) }
     ensures fault { IfErr result (λ fault. bytes_body at bytes.now ≡ Err fault) }
 {
     let (count, rest) = read_varint(bytes, at)?;
@@ -95,7 +97,7 @@ fn read_bytes_body(bytes: &[u8], at: u64) -> Result<(Body<'_>, &[u8]), WireFault
 #[tactic(auto, unfolding(crate::specs::Fields::fixed32_body, crate::specs::Fields::part_at))]
 fn read_fixed32_body(bytes: &[u8], at: u64) -> Result<(Body<'_>, &[u8]), WireFault>
     ensures body { IfOk result (λ found. fixed32_body at bytes.now ≡ Ok (content_of found.0, found.1.now)) }
-    ensures shorter { IfOk result (λ found. length found.1.now ≤ length bytes.now) }
+    ensures room { IfOk result (λ found. length found.1.now + inner_length (content_of found.0) ≤ length bytes.now) }
     ensures fault { IfErr result (λ fault. fixed32_body at bytes.now ≡ Err fault) }
 {
     let Some((word, rest)) = bytes.split_first_chunk::<4>() else {
@@ -104,12 +106,12 @@ fn read_fixed32_body(bytes: &[u8], at: u64) -> Result<(Body<'_>, &[u8]), WireFau
     Ok((Body::Fixed32(u32::from_le_bytes(*word)), rest))
 }
 
-#[tactic(auto, unfolding(crate::specs::Fields::body_at))]
+#[tactic(auto, unfolding(crate::specs::Fields::body_of))]
 /// The body of a wire type that has one.
 fn read_body(bytes: &[u8], at: u64, kind: u64) -> Result<(Body<'_>, &[u8]), WireFault>
-    ensures body { IfOk result (λ found. body_at at kind bytes.now ≡ Ok (content_of found.0, found.1.now)) }
-    ensures shorter { IfOk result (λ found. length found.1.now ≤ length bytes.now) }
-    ensures fault { IfErr result (λ fault. body_at at kind bytes.now ≡ Err fault) }
+    ensures body { IfOk result (λ found. body_of at kind bytes.now ≡ Ok (content_of found.0, found.1.now)) }
+    ensures room { IfOk result (λ found. length found.1.now + inner_length (content_of found.0) ≤ length bytes.now) }
+    ensures fault { IfErr result (λ fault. body_of at kind bytes.now ≡ Err fault) }
 {
     match kind {
         0 => read_varint_body(bytes, at),
@@ -119,17 +121,46 @@ fn read_body(bytes: &[u8], at: u64, kind: u64) -> Result<(Body<'_>, &[u8]), Wire
     }
 }
 
+/// How far behind the first byte of a field its body stands, where its tag and the whole of it have so many bytes.
+fn body_offset(tag: usize, whole: usize, body: &Body<'_>) -> usize
+    requires holds { inner_length (content_of body.now) ≤ whole }
+    requires tagged { tag ≤ whole }
+    ensures offset { result ≡ body_offset tag whole (content_of body.now) }
+    ensures inside { result + inner_length (content_of body.now) ≤ whole }
+{
+    match body {
+        Body::Bytes(inner) => whole - inner.len(),
+        _ => tag,
+    }
+}
+
 #[tactic(auto, unfolding(crate::specs::Fields::field_of))]
 /// Reads the field that begins the bytes, and gives the bytes after it. `at` is the place of the first byte.
 pub fn read_field(bytes: &[u8], at: u64) -> Result<(Field<'_>, &[u8]), WireFault>
+    requires { at + length bytes.now < 2 ^ 64 }
     ensures field { IfOk result (λ found. field_of at bytes.now ≡ Ok (seen found.0, found.1.now)) }
     ensures shorter { IfOk result (λ found. length found.1.now < length bytes.now) }
+    ensures inside { IfOk result (λ found. found.0.body_at + inner_length (content_of found.0.body) + length found.1.now ≤ at + length bytes.now) }
     ensures fault { IfErr result (λ fault. field_of at bytes.now ≡ Err fault) }
 {
-    let (tag, rest) = read_varint(bytes, at)?;
+    let (tag, behind_tag) = read_varint(bytes, at)?;
     let number = field_number(tag, at)?;
-    let (body, rest) = read_body(rest, at, tag % 8)?;
-    Ok((Field { number, at, body }, rest))
+    let (body, rest) = read_body(behind_tag, at, tag % 8)?;
+    let offset = body_offset(
+        bytes.len() - behind_tag.len(),
+        bytes.len() - rest.len(),
+        &body,
+    );
+    let body_at = at + offset as u64;
+    Ok((
+        Field {
+            number,
+            at,
+            body_at,
+            body,
+        },
+        rest,
+    ))
 }
 
 /// A reader of the fields of a message. It borrows its bytes, and so do the bodies that it gives.

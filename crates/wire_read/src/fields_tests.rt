@@ -30,7 +30,7 @@ const GREATEST_NUMBER: [u8; 20] = [
     0xf9, 0xff, 0xff, 0xff, 0x0f, 1, 0, 0, 0, 0, 0, 0, 0x80, 0x1d, 1, 2, 0, 0xff, 0x0a, 0,
 ];
 
-const NONE: [(u32, u64, u8, u64); 0] = [];
+const NONE: [(u32, u64, u64, u8, u64); 0] = [];
 
 // The wire type, and the number or how many bytes there are.
 fn shown(body: Body) -> (u8, u64) {
@@ -51,22 +51,22 @@ fn messages(rt: HostRuntime) -> Result<(), Fail> {
         // field 1, varint 150
         (
             [0x08, 0x96, 0x01].as_slice(),
-            [(1, 100, 0, 150)].as_slice(),
+            [(1, 100, 101, 0, 150)].as_slice(),
             None,
         ),
         // field 2, bytes "testing"
         (
             [0x12, 0x07, 0x74, 0x65, 0x73, 0x74, 0x69, 0x6e, 0x67].as_slice(),
-            [(2, 100, 2, 7)].as_slice(),
+            [(2, 100, 102, 2, 7)].as_slice(),
             None,
         ),
         // the greatest number and eight bytes; four bytes; no bytes
         (
             GREATEST_NUMBER.as_slice(),
             [
-                (536_870_911, 100, 1, 0x8000_0000_0000_0001),
-                (3, 113, 5, 0xff00_0201),
-                (1, 118, 2, 0),
+                (536_870_911, 100, 105, 1, 0x8000_0000_0000_0001),
+                (3, 113, 114, 5, 0xff00_0201),
+                (1, 118, 120, 2, 0),
             ]
             .as_slice(),
             None,
@@ -117,17 +117,17 @@ fn messages(rt: HostRuntime) -> Result<(), Fail> {
         // each body is cut off, behind a field that is whole
         (
             [0x08, 0x00, 0x08].as_slice(),
-            [(1, 100, 0, 0)].as_slice(),
+            [(1, 100, 101, 0, 0)].as_slice(),
             Some(WireFault::Short { at: 102 }),
         ),
         (
             [0x08, 0x00, 0x09, 1, 2, 3, 4, 5, 6, 7].as_slice(),
-            [(1, 100, 0, 0)].as_slice(),
+            [(1, 100, 101, 0, 0)].as_slice(),
             Some(WireFault::Short { at: 102 }),
         ),
         (
             [0x08, 0x00, 0x0d, 1, 2, 3].as_slice(),
-            [(1, 100, 0, 0)].as_slice(),
+            [(1, 100, 101, 0, 0)].as_slice(),
             Some(WireFault::Short { at: 102 }),
         ),
         (
@@ -152,9 +152,9 @@ fn messages(rt: HostRuntime) -> Result<(), Fail> {
     ] {
         let (found, end) = fields_of(rt.alloc(), bytes, 100)?;
         assert_eq!(rt; found.len(), want.len(), "of {bytes:?}");
-        for (field, (number, at, kind, value)) in found.iter().zip(want) {
+        for (field, (number, at, body_at, kind, value)) in found.iter().zip(want) {
             assert_eq!(rt; field.number, *number, "of {bytes:?}");
-            assert_eq!(rt; field.at, *at, "of {bytes:?}");
+            assert_eq!(rt; (field.at, field.body_at), (*at, *body_at), "of {bytes:?}");
             assert_eq!(rt; shown(field.body), (*kind, *value), "of {bytes:?}");
         }
         assert_eq!(rt; end, fault, "after {bytes:?}");
@@ -176,7 +176,7 @@ fn a_message_in_a_message(rt: HostRuntime) -> Result<(), Fail> {
         assert!(rt; false, "bytes");
         return Ok(());
     };
-    let (found, fault) = fields_of(rt.alloc(), inner, 42)?;
+    let (found, fault) = fields_of(rt.alloc(), inner, field.body_at)?;
     assert_eq!(rt; fault, None);
     assert_eq!(rt; found.len(), 1);
     assert_eq!(rt; found[0].at, 42);

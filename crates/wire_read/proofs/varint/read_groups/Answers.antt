@@ -1,7 +1,7 @@
 use Rattle.std.proofs.Common.{◌≡◌, ◌+◌, ◌-◌, ◌*◌, ◌^◌, suc, ap, ◌∙◌, arith}
 use Rattle.std.proofs.lemmas.Nat.{pow-add}
 use Rattle.wire_read.proofs.Groups.{varint_of-completed, varint_of-shorter, step_last, step_on}
-use Rattle.wire_read.proofs.varint.read_varint.Goals as goal
+use Rattle.wire_read.proofs.varint.read_groups.Goals as goal
 
 pub loop-group-init : goal.loop-group-init
 loop-group-init c = varint_of-completed c.args.bytes.now
