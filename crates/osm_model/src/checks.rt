@@ -1,6 +1,6 @@
 //! Whether lists are those of an extract.
 
-ghost use Rattle.std.specs.Prelude.{◌≡◌, ◌<◌, ◌≤◌, ◌+◌, ◌-◌, ◌^◌, ◌↔◌, ℕ, min, length, All, IsTrue};
+ghost use Rattle.std.specs.Prelude.{◌≡◌, ◌-◌, ◌^◌, ◌↔◌, min, All, IsTrue};
 ghost use Rattle.osm_model.specs.OsmNode.{IsPlaced};
 ghost use Rattle.osm_model.specs.Extract.{NodesRise, WaysRise, RelationsRise, AreOrdered, AreWithin, refs_in, members_in, tags_in, tags_of_nodes, tags_of_ways, tags_of_relations};
 
