@@ -1,5 +1,5 @@
 -- The exits of functions by `?`: the fault of a part is the fault of the whole.
-use Rattle.std.proofs.Common.{◌≡◌, Option, Some, None, Result, Ok, Err, refl, sym, ap, ◌∙◌, subst}
+use Rattle.std.proofs.Common.{◌≡◌, Option, None, Result}
 use Rattle.std.specs.Prelude.{IsErrAnd}
 use Rattle.std.proofs.lemmas.Result.{err_from_is_err_and}
 use Rattle.osm_blocks.specs.declared.fault.BlockFault.{BlockFault}

@@ -1,17 +1,16 @@
 -- Groups and blocks, field by field.
-use Rattle.std.proofs.Common.{◌≡◌, ℕ, ◌<◌, cond, eqb, Bool, true, false, List, [], ◌∷◌, length, Option, Some, None, refl, sym, ap, ◌∙◌, subst, inl, inr}
+use Rattle.std.proofs.Common.{◌≡◌, ℕ, ◌<◌, cond, eqb, true, false, List, [], ◌∷◌, length, Option, Some, None, refl, sym, ap, ◌∙◌, subst, inl, inr}
 use Rattle.wire_read.specs.Numbers.{Unread}
 use Rattle.wire_read.specs.Fields.{WireField}
 use Rattle.osm_model.specs.declared.nodes.OsmNode.{OsmNode}
-use Rattle.osm_model.specs.declared.ways.OsmWay.{OsmWay}
 use Rattle.osm_blocks.specs.Messages.{◌>>=◌, each, steps, not_empty, fields_in, fields_left_in, bytes_of, first_bytes, no_more, Takes, GivesField, HasMore, HasNone}
 use Rattle.osm_blocks.specs.Strings.{texts_in}
 use Rattle.osm_blocks.specs.Nodes.{nodes_in}
-use Rattle.osm_blocks.specs.Blocks.{Group, Nodes, Ways, dense_group, way_of, ways_group, begins_with, group_of, group_in, groups_in, Begins}
+use Rattle.osm_blocks.specs.Blocks.{Group, Nodes, Ways, dense_group, way_of, ways_group, group_of, group_in, groups_in, Begins}
 use Rattle.osm_blocks.specs.Headers.{feature_of, features_in}
 use Rattle.osm_blocks.specs.Objects.{Draft}
-use Rattle.osm_blocks.specs.Drafts.{with_node, with_way, with_group, with_nodes_in, with_ways_in, with_dense_in, with_group_in, with_data}
-use Rattle.osm_blocks.proofs.Options.{bind_assoc, bind_same, each_then_steps, not_empty_first, cons_not_empty}
+use Rattle.osm_blocks.specs.Drafts.{with_way, with_group, with_nodes_in, with_ways_in, with_dense_in, with_group_in, with_data}
+use Rattle.osm_blocks.proofs.Options.{bind_assoc, bind_same, each_then_steps, not_empty_first}
 use Rattle.osm_blocks.proofs.PartChains.{begun, found, missing}
 use Rattle.osm_blocks.proofs.Left.{fields_in-left, left-some, left-nil}
 

@@ -1,20 +1,19 @@
 -- A draft with one object more.
-use Rattle.std.proofs.Common.{◌≡◌, ◌≢◌, ℕ, zero, suc, ◌+◌, ◌-◌, ◌<◌, ◌≤◌, ltb, leb, cond, Bool, true, false, ◌&&◌, ℤ, pos, neg_ℤ, ◌+ℤ◌, ◌<ℤ◌, ◌≤ℤ◌, FitsSigned, w32, List, [], ◌∷◌, ◌++◌, length, get_or, Option, Some, None, refl, sym, ap, ◌∙◌, subst, arith, inl, inr, All, sum_by}
+use Rattle.std.proofs.Common.{◌≡◌, ℕ, zero, suc, ◌+◌, ◌-◌, ◌<◌, ◌≤◌, ltb, leb, cond, Bool, true, false, ◌&&◌, ℤ, pos, neg_ℤ, ◌<ℤ◌, FitsSigned, w32, List, [], ◌∷◌, ◌++◌, length, get_or, Option, Some, None, refl, sym, ap, ◌∙◌, subst, arith, inl, inr, sum_by}
 use Rattle.std.specs.Prelude.{int_lt, int_le, AllPairs, slice_get}
 use Rattle.std.specs.List.{list_all}
 use Rattle.std.proofs.lemmas.Int.{ints}
-use Rattle.std.proofs.lemmas.Bool.{cases_Bool, cases_lt, cases_eq, and_parts, and_from, and_cases, and_left, and_right, leb-true, leb-false, le-leb, lt-leb, ltb-true, ltb-false, cond-true, cond-false}
-use Rattle.std.proofs.lemmas.List.{length_push, get_or_default}
+use Rattle.std.proofs.lemmas.Bool.{cases_lt, and_parts, and_from, and_cases, and_left, and_right, leb-true, leb-false, le-leb, lt-leb, ltb-true, ltb-false}
+use Rattle.std.proofs.lemmas.List.{length_push}
 use Rattle.std.proofs.lemmas.List.Quantifiers.{all_pairs_push}
-use Rattle.std.proofs.lemmas.List.Elements.{All-push}
 use Rattle.std.proofs.lemmas.List.Sums.{sum_by-append}
 use Rattle.std.proofs.lemmas.Option.{get_or_from_slice_get}
 use Rattle.osm_model.specs.declared.nodes.OsmNode.{OsmNode}
 use Rattle.osm_model.specs.declared.ways.OsmWay.{OsmWay}
 use Rattle.osm_model.specs.OsmNode.{IsPlaced}
-use Rattle.osm_model.specs.Extract.{NodesRise, WaysRise, refs_in, tags_in}
+use Rattle.osm_model.specs.Extract.{refs_in, tags_in}
 use Rattle.osm_blocks.specs.Objects.{Draft}
-use Rattle.osm_blocks.specs.Drafts.{is_above_last, follows_node, follows_way, is_place, within_limits, limited, has_node, with_node, with_way}
+use Rattle.osm_blocks.specs.Drafts.{is_above_last, follows_node, follows_way, is_place, within_limits, has_node, with_node, with_way}
 use Rattle.osm_blocks.specs.Limits.{may_add_node, may_add_way}
 
 -- ---- ids that rise

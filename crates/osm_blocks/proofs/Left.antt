@@ -4,7 +4,7 @@ use Rattle.std.specs.Result.{result_ok}
 use Rattle.wire_read.specs.declared.fault.WireFault.{WireFault}
 use Rattle.wire_read.specs.declared.fields.Field.{Field}
 use Rattle.wire_read.specs.Numbers.{Unread}
-use Rattle.wire_read.specs.Fields.{WireField, seen, field_of, NextField, Listed, with_item, message_of, fields_of, unbroken}
+use Rattle.wire_read.specs.Fields.{WireField, seen, field_of, NextField, Listed, message_of, unbroken}
 use Rattle.wire_read.proofs.Lists.{message_of-nil, message_of-field, message_of-fault}
 use Rattle.wire_read.proofs.Messages.{field_of-shorter}
 use Rattle.osm_blocks.specs.Messages.{◌>>=◌, not_empty, fields_in, fields_left_in, bytes_of, varint_in, first_bytes, first_varint, Takes, GivesField, HasMore, HasNone}

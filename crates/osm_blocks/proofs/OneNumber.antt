@@ -1,5 +1,5 @@
 -- Packed bytes of one number.
-use Rattle.std.proofs.Common.{◌≡◌, ℕ, zero, suc, ◌<◌, List, [], ◌∷◌, length, Option, Some, None, refl, sym, ap, ◌∙◌, arith}
+use Rattle.std.proofs.Common.{◌≡◌, ℕ, ◌<◌, List, [], ◌∷◌, length, Option, Some, None, refl, ap, ◌∙◌, arith}
 use Rattle.wire_read.specs.declared.fault.WireFault.{WireFault}
 use Rattle.wire_read.specs.Varint.{Spelled, varint_of, fault_at}
 use Rattle.osm_blocks.specs.Messages.{◌>>=◌, not_empty, numbers_in}

@@ -1,14 +1,13 @@
 -- For each file there is one reading.
-use Rattle.std.proofs.Common.{◌≡◌, ℕ, List, [], ◌∷◌, ◌++◌, drop, Option, Some, None, refl, sym, ap, ◌∙◌, subst, inl, inr, ◌⊎◌}
+use Rattle.std.proofs.Common.{◌≡◌, ℕ, List, [], ◌∷◌, ◌++◌, drop, Option, Some, None, refl, sym, ap, ◌∙◌, inl, inr, ◌⊎◌}
 use Rattle.std.specs.Prelude.{IsSome}
 use Rattle.std.proofs.lemmas.List.{append-nil}
-use Rattle.wire_read.specs.Varint.{AreBytes}
 use Rattle.pbf_blobs.specs.declared.blob.Blob.{Blob}
 use Rattle.pbf_blobs.specs.Next.{Outcome, Ends, Gives, Cut, NotPlain, next_of}
 use Rattle.pbf_blobs.specs.Frames.{Frames, IsLast, IsFramedOneWay}
 use Rattle.osm_blocks.specs.Messages.{◌>>=◌, steps}
 use Rattle.osm_blocks.specs.Objects.{Draft}
-use Rattle.osm_blocks.specs.Extracts.{with_blob, begun_by, extract_of, ArePlain, IsExtract, IsCutAt, IsOtherAt, Reading, Extracted, CutAt, OtherAt, Reads, IsReadOneWay}
+use Rattle.osm_blocks.specs.Extracts.{with_blob, begun_by, extract_of, ArePlain, Reading, Extracted, CutAt, OtherAt, Reads, IsReadOneWay}
 use Rattle.osm_blocks.proofs.Prefix.{extract-last, ReadTo, ReadTo-first, ReadTo-next, ReadTo-end, ReadTo-cut, ReadTo-other, ReadTo-refused, first-cut, first-other, first-refused, first-none}
 
 -- ---- the reading, computed from the blobs of the whole file

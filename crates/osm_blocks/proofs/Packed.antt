@@ -1,9 +1,9 @@
 -- Packed numbers, read one after the other: the place at which they stand doesn't matter to what they are.
-use Rattle.std.proofs.Common.{◌≡◌, ℕ, zero, suc, ◌+◌, ◌-◌, ◌<◌, ◌≤◌, List, [], ◌∷◌, length, Option, Some, None, Result, Ok, Err, refl, sym, ap, ◌∙◌, arith}
+use Rattle.std.proofs.Common.{◌≡◌, ℕ, zero, suc, ◌+◌, ◌-◌, ◌<◌, List, [], ◌∷◌, length, Option, Some, None, Ok, Err, refl, sym, ap, ◌∙◌, arith}
 use Rattle.std.specs.Result.{result_ok}
 use Rattle.wire_read.specs.declared.fault.WireFault.{WireFault}
 use Rattle.wire_read.specs.Varint.{VarintOutcome, Spelled, Short, Long, varint_of, fault_at}
-use Rattle.wire_read.specs.Fields.{varint_read, varint_at, Listed, with_item, after_item, listed_within, packed_of, numbers_of, unbroken}
+use Rattle.wire_read.specs.Fields.{varint_read, varint_at, Listed, after_item, listed_within, packed_of, unbroken}
 use Rattle.wire_read.proofs.Groups.{varint_of-shorter}
 use Rattle.wire_read.proofs.Lists.{packed_of-nil, packed_of-number, packed_of-fault}
 use Rattle.osm_blocks.specs.Messages.{◌>>=◌, not_empty, numbers_in}

@@ -1,5 +1,5 @@
 -- Messages whose fields come once each, in one order: one part after the other.
-use Rattle.std.proofs.Common.{◌≡◌, ℕ, Bool, true, false, List, [], ◌∷◌, Option, Some, None, refl, sym, ap, ◌∙◌}
+use Rattle.std.proofs.Common.{◌≡◌, ℕ, false, List, [], ◌∷◌, Option, Some, None, refl, ap, ◌∙◌}
 use Rattle.wire_read.specs.Numbers.{Unread}
 use Rattle.wire_read.specs.Fields.{WireField}
 use Rattle.osm_blocks.specs.Messages.{◌>>=◌, not_empty, fields_in, fields_left_in, first_bytes, first_varint, no_more, Takes, HasMore, HasNone}

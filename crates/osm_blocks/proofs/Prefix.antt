@@ -1,14 +1,13 @@
 -- A file read blob by blob: what has been read, and how it goes on.
-use Rattle.std.proofs.Common.{◌≡◌, ℕ, zero, suc, ◌+◌, ◌-◌, ◌<◌, ◌≤◌, ltb, leb, eqb, cond, Bool, true, false, ◌&&◌, List, [], ◌∷◌, ◌++◌, length, take, drop, Option, Some, None, refl, sym, ap, ◌∙◌, subst, arith, inl, inr, ◌⊎◌, length-drop}
-use Rattle.std.specs.Prelude.{IsSome}
+use Rattle.std.proofs.Common.{◌≡◌, ℕ, ◌+◌, ◌-◌, ◌≤◌, ltb, leb, eqb, cond, Bool, true, false, ◌&&◌, List, [], ◌∷◌, ◌++◌, length, take, drop, Option, Some, None, refl, sym, ap, ◌∙◌, subst, arith, inl, inr, ◌⊎◌, length-drop}
 use Rattle.std.specs.Option.{option_map}
 use Rattle.std.specs.Int.{w32, from_be_bytes}
-use Rattle.std.proofs.lemmas.Bool.{ltb-true, ltb-false, eqb-true}
+use Rattle.std.proofs.lemmas.Bool.{ltb-false, eqb-true}
 use Rattle.host_port.specs.Told.{Told, moved}
 use Rattle.pbf_blobs.specs.declared.blob.Blob.{Blob}
 use Rattle.pbf_blobs.specs.Triple.{is_known}
 use Rattle.pbf_blobs.specs.Input.{OnlyMoved}
-use Rattle.pbf_blobs.specs.Next.{Outcome, Ends, Gives, Cut, NotPlain, blob_of, paid, raw_of, bodied, sized, headed, framed, measured, header_of, next_of}
+use Rattle.pbf_blobs.specs.Next.{Outcome, Ends, Gives, Cut, NotPlain, blob_of, paid, raw_of, bodied, headed, framed, measured, header_of, next_of}
 use Rattle.pbf_blobs.specs.Frames.{Frames}
 use Rattle.osm_blocks.specs.Messages.{◌>>=◌, steps}
 use Rattle.osm_blocks.specs.Objects.{Draft}

@@ -1,6 +1,6 @@
 -- The rules that the program's draft keeps, with one object more.
-use Rattle.std.proofs.Common.{◌≡◌, ℕ, ◌+◌, ◌<◌, ◌≤◌, true, false, ℤ, List, [], ◌∷◌, ◌++◌, length, Option, Some, None, refl, sym, ap, ◌∙◌, subst, arith}
-use Rattle.std.specs.Prelude.{All, AllPairs, ◌<ℤ◌}
+use Rattle.std.proofs.Common.{◌≡◌, ℕ, ◌+◌, true, ℤ, List, [], ◌∷◌, ◌++◌, length, refl, sym, ap, ◌∙◌, subst}
+use Rattle.std.specs.Prelude.{All}
 use Rattle.std.proofs.lemmas.List.Elements.{All-push}
 use Rattle.osm_model.specs.declared.nodes.OsmNode.{OsmNode}
 use Rattle.osm_model.specs.declared.ways.OsmWay.{OsmWay}
@@ -9,8 +9,7 @@ use Rattle.osm_model.specs.Extract.{NodesRise, WaysRise, refs_in, tags_in}
 use Rattle.osm_model.specs.declared.tags.Tag.{Tag}
 use Rattle.osm_blocks.specs.declared.draft.Draft.TheInside.{Inside}
 use Rattle.osm_blocks.specs.DraftInside.{KeepsRules}
-use Rattle.osm_blocks.specs.Objects.{Draft}
-use Rattle.osm_blocks.specs.Drafts.{within_limits, with_node}
+use Rattle.osm_blocks.specs.Drafts.{within_limits}
 use Rattle.osm_blocks.specs.Limits.{may_add_node, may_add_way}
 use Rattle.osm_blocks.proofs.Growth.{rise_push, placed_is, bare, limits-room, may_add_node-parts, tags-bare, five_tests, limits-way-room, refs-longer, tags-longer}
 

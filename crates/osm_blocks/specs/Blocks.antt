@@ -1,5 +1,5 @@
 -- The data block of an OSMData blob (osmformat.proto, PrimitiveBlock): a string table, then groups of objects.
-use Rattle.std.specs.Prelude.{◌≡◌, ℕ, Bool, true, false, ◌==◌, if◌then◌else◌, List, [], ◌∷◌, Option, Some, None}
+use Rattle.std.specs.Prelude.{◌≡◌, ℕ, Bool, false, ◌==◌, if◌then◌else◌, List, [], ◌∷◌, Option, Some, None}
 use Rattle.wire_read.specs.Fields.{WireField}
 use Rattle.osm_model.specs.declared.nodes.OsmNode.{OsmNode}
 use Rattle.osm_model.specs.declared.ways.OsmWay.{OsmWay}

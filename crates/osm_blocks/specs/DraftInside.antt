@@ -1,11 +1,10 @@
 -- What holds of the program's draft.
-use Rattle.std.specs.Prelude.{◌≡◌, ℕ, ℤ, Bool, true, ◌&&◌, nat_lt, [], List, length, All}
-use Rattle.osm_model.specs.declared.nodes.OsmNode.{OsmNode}
+use Rattle.std.specs.Prelude.{◌≡◌, true, [], All}
 use Rattle.osm_model.specs.OsmNode.{IsPlaced}
 use Rattle.osm_model.specs.Extract.{NodesRise, WaysRise, refs_in, tags_in}
 use Rattle.osm_blocks.specs.declared.draft.Draft.TheInside.{Inside}
 use Rattle.osm_blocks.specs.Objects.{Draft}
-use Rattle.osm_blocks.specs.Drafts.{follows_node, is_place, within_limits}
+use Rattle.osm_blocks.specs.Drafts.{within_limits}
 
 -- its objects
 abbrev pub seen_draft : Inside → Draft

@@ -1,5 +1,5 @@
 -- How an extract grows by its nodes, ways and groups. Where it may not grow so, the file isn't plain.
-use Rattle.std.specs.Prelude.{ℕ, ℤ, pos, neg_ℤ, int_lt, int_le, Bool, true, false, ◌&&◌, nat_le, if◌then◌else◌, List, [], ◌∷◌, ◌++◌, length, Option, Some, None}
+use Rattle.std.specs.Prelude.{ℕ, ℤ, pos, neg_ℤ, int_lt, int_le, Bool, true, ◌&&◌, nat_le, if◌then◌else◌, List, [], ◌∷◌, ◌++◌, length, Option, Some, None}
 use Rattle.std.specs.Ordering.{int_eq}
 use Rattle.std.specs.List.{list_any, list_all}
 use Rattle.osm_model.specs.declared.nodes.OsmNode.{OsmNode}
@@ -8,7 +8,7 @@ use Rattle.osm_model.specs.Extract.{refs_in, tags_in}
 use Rattle.osm_blocks.specs.Messages.{◌>>=◌, steps, fields_in}
 use Rattle.wire_read.specs.Fields.{WireField}
 use Rattle.osm_blocks.specs.Objects.{Draft}
-use Rattle.osm_blocks.specs.Nodes.{nodes_of, nodes_in}
+use Rattle.osm_blocks.specs.Nodes.{nodes_in, nodes_behind}
 use Rattle.osm_blocks.specs.Blocks.{Group, Nodes, Ways, dense_group, ways_group, group_in, groups_in}
 
 -- ---- one object more
@@ -66,9 +66,9 @@ with_group draft (Ways ways) = steps with_way draft ways
 abbrev pub with_nodes_in : Draft → List ℕ → Option Draft
 with_nodes_in draft bytes = nodes_in bytes >>= steps with_node draft
 
--- the nodes of these ids, latitudes and longitudes more
-abbrev pub with_node_lists : Draft → List ℤ → List ℤ → List ℤ → Option Draft
-with_node_lists draft ids lats lons = nodes_of ids lats lons >>= steps with_node draft
+-- the nodes of these packed ids, latitudes and longitudes more, where this id and this place came before them
+abbrev pub with_packed : Draft → ℤ → ℤ → ℤ → List ℕ → List ℕ → List ℕ → Option Draft
+with_packed draft id lat lon ids lats lons = nodes_behind id lat lon ids lats lons >>= steps with_node draft
 
 -- ---- by the bytes of a block
 

@@ -1,5 +1,5 @@
 -- A plain extract: the objects of a list of blobs.
-use Rattle.std.specs.Prelude.{◌≡◌, ◌⊎◌, ℕ, if◌then◌else◌, List, [], ◌∷◌, ◌++◌, Option, Some, None, IsSome, Result, Ok, Err, codes}
+use Rattle.std.specs.Prelude.{◌≡◌, ◌⊎◌, ℕ, if◌then◌else◌, List, [], ◌∷◌, ◌++◌, Option, Some, None, IsSome, codes}
 use Rattle.std.specs.Str.{bytes_eq}
 use Rattle.pbf_blobs.specs.declared.blob.Blob.{Blob}
 use Rattle.pbf_blobs.specs.Next.{Ends, Gives, Cut, NotPlain}

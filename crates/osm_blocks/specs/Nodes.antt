@@ -2,7 +2,7 @@
 use Rattle.std.specs.Prelude.{ℕ, ℤ, List, [], ◌∷◌, Option, Some, None}
 use Rattle.osm_model.specs.declared.nodes.OsmNode.{OsmNode}
 use Rattle.osm_blocks.specs.Messages.{◌>>=◌, fields_in, first_bytes, no_more}
-use Rattle.osm_blocks.specs.Deltas.{sums_in}
+use Rattle.osm_blocks.specs.Deltas.{sums_in, sums_behind}
 
 -- the three packed lists: fields 1, 8 and 9, once each, in this order
 pub record DenseParts : Type 0 where
@@ -32,3 +32,11 @@ nodes_in bytes = do
   lats ← sums_in parts.lats
   lons ← sums_in parts.lons
   nodes_of ids lats lons
+
+-- the nodes of packed ids, latitudes and longitudes, where this id and this place came before them
+abbrev pub nodes_behind : ℤ → ℤ → ℤ → List ℕ → List ℕ → List ℕ → Option (List OsmNode)
+nodes_behind id lat lon ids lats lons = do
+  i ← sums_behind id ids
+  a ← sums_behind lat lats
+  o ← sums_behind lon lons
+  nodes_of i a o

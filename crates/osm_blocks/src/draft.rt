@@ -1,10 +1,8 @@
 //! An extract while it is read.
 
-ghost use Rattle.std.specs.Prelude.{◌≡◌, [], ◌<◌, length};
-ghost use Rattle.std.specs.List.{list_all};
-ghost use Rattle.osm_model.specs.Extract.{NodesRise};
+ghost use Rattle.std.specs.Prelude.{◌≡◌, []};
 ghost use Rattle.osm_blocks.specs.Answers.{Becomes};
-ghost use Rattle.osm_blocks.specs.Drafts.{with_node, with_way, with_node_lists};
+ghost use Rattle.osm_blocks.specs.Drafts.{with_node, with_way};
 
 use crate::checks::{may_add_node, may_add_way};
 use crate::fault::BlockFault;
@@ -61,25 +59,6 @@ impl Draft {
             lon: lon as i32,
             tags: Tags::new(alloc),
         })?;
-        Ok(())
-    }
-
-    /// Adds the nodes of these ids, latitudes and longitudes, of which there have to be as many each.
-    pub fn add_nodes(
-        &mut self,
-        alloc: Global,
-        ids: &[i64],
-        lats: &[i64],
-        lons: &[i64],
-    ) -> Result<(), BlockFault>
-        ensures { Becomes result self.new (with_node_lists self.old ids.now lats.now lons.now) }
-    {
-        if lats.len() != ids.len() || lons.len() != ids.len() {
-            return Err(BlockFault::NotPlain);
-        }
-        for i in 0..ids.len() {
-            self.add_node(alloc, ids[i], lats[i], lons[i])?;
-        }
         Ok(())
     }
 

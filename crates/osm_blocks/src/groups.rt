@@ -1,6 +1,5 @@
 //! Data blocks and their groups.
 
-ghost use Rattle.std.specs.Prelude.{◌≡◌};
 ghost use Rattle.wire_read.specs.Fields.{seen};
 ghost use Rattle.osm_blocks.specs.Messages.{fields_in};
 ghost use Rattle.osm_blocks.specs.Answers.{Becomes};

@@ -1,13 +1,12 @@
 //! Nodes in dense messages.
 
-ghost use Rattle.std.specs.Prelude.{◌≡◌};
+ghost use Rattle.std.specs.Prelude.{◌≡◌, pos};
 ghost use Rattle.std.specs.Option.{option_map};
-ghost use Rattle.osm_blocks.specs.Messages.{first_bytes};
-ghost use Rattle.osm_blocks.specs.Nodes.{dense_parts, nodes_in, nodes_of};
+ghost use Rattle.osm_blocks.specs.Nodes.{dense_parts};
 ghost use Rattle.osm_blocks.specs.Answers.{Becomes};
-ghost use Rattle.osm_blocks.specs.Drafts.{with_nodes_in};
+ghost use Rattle.osm_blocks.specs.Drafts.{with_nodes_in, with_packed};
 
-use crate::deltas::sums_in;
+use crate::deltas::next_sum;
 use crate::draft::Draft;
 use crate::fault::BlockFault;
 use crate::parts::{first_bytes, no_more};
@@ -29,15 +28,45 @@ fn dense_parts(bytes: &[u8]) -> Option<(&[u8], &[u8], &[u8])>
     }
 }
 
+/// Adds the nodes that packed ids, latitudes and longitudes spell, of which there have to be as many each.
+fn add_packed(
+    alloc: Global,
+    draft: &mut Draft,
+    ids: &[u8],
+    lats: &[u8],
+    lons: &[u8],
+) -> Result<(), BlockFault>
+    ensures { Becomes result draft.new (with_packed draft.old (pos 0) (pos 0) (pos 0) ids.now lats.now lons.now) }
+{
+    let (mut id, mut lat, mut lon): (i64, i64, i64) = (0, 0, 0);
+    let (mut ids, mut lats, mut lons) = (ids, lats, lons);
+    while !ids.is_empty() {
+        let Some((next_id, ids_after)) = next_sum(id, ids) else {
+            return Err(BlockFault::NotPlain);
+        };
+        let Some((next_lat, lats_after)) = next_sum(lat, lats) else {
+            return Err(BlockFault::NotPlain);
+        };
+        let Some((next_lon, lons_after)) = next_sum(lon, lons) else {
+            return Err(BlockFault::NotPlain);
+        };
+        draft.add_node(alloc, next_id, next_lat, next_lon)?;
+        (id, lat, lon) = (next_id, next_lat, next_lon);
+        (ids, lats, lons) = (ids_after, lats_after, lons_after);
+    }
+    if lats.is_empty() && lons.is_empty() {
+        Ok(())
+    } else {
+        Err(BlockFault::NotPlain)
+    }
+}
+
 /// Adds the nodes of a dense message to the draft.
 pub fn add_dense(alloc: Global, draft: &mut Draft, bytes: &[u8]) -> Result<(), BlockFault>
     ensures { Becomes result draft.new (with_nodes_in draft.old bytes.now) }
 {
-    let Some((ids, lats, lons)) = dense_parts(bytes) else {
-        return Err(BlockFault::NotPlain);
-    };
-    let ids = sums_in(alloc, ids)?;
-    let lats = sums_in(alloc, lats)?;
-    let lons = sums_in(alloc, lons)?;
-    draft.add_nodes(alloc, &ids, &lats, &lons)
+    match dense_parts(bytes) {
+        Some((ids, lats, lons)) => add_packed(alloc, draft, ids, lats, lons),
+        None => Err(BlockFault::NotPlain),
+    }
 }

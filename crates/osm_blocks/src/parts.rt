@@ -1,6 +1,6 @@
 //! Fields of a message, one after the other.
 
-ghost use Rattle.std.specs.Prelude.{◌≡◌, IsTrue, IsFalse, OnSome, Some, None, true, false};
+ghost use Rattle.std.specs.Prelude.{◌≡◌, IsTrue, IsFalse, OnSome, false};
 ghost use Rattle.std.specs.Option.{option_copied, option_map};
 ghost use Rattle.wire_read.specs.Fields.{seen};
 ghost use Rattle.osm_blocks.specs.Messages.{bytes_of, varint_in, first_bytes, first_varint, Takes, GivesField, HasMore, HasNone};

@@ -306,3 +306,25 @@ fn texts(rt: HostRuntime) -> Result<(), Fail> {
     }
     Ok(())
 }
+
+// The fault of the smallest extract, want of memory for the host among them.
+fn fault_with(alloc: Global) -> Option<ExtractFault> {
+    match read_bytes(alloc, TWO_NODES.as_slice(), 65_536, None) {
+        Ok(Ok(_)) => None,
+        Ok(Err(fault)) => Some(fault),
+        Err(_) => Some(ExtractFault::OutOfMemory),
+    }
+}
+
+// It is read twice. Where one allocation fails, the reading that it falls into says so, and the other gives the
+// extract. `rt try --test --fail-alloc N` makes the Nth allocation of each test fail.
+#[test]
+fn allocation_that_fails(rt: HostRuntime) {
+    let (first, second) = (fault_with(rt.alloc()), fault_with(rt.alloc()));
+    assert!(rt; first.is_none() || second.is_none());
+    let fault = first.or(second);
+    assert!(rt;
+        matches!(fault, None | Some(ExtractFault::OutOfMemory)),
+        "{fault:?}"
+    );
+}

@@ -1,4 +1,4 @@
-use Rattle.std.proofs.Common.{◌≡◌, ◌∙◌, sym, ap, refl}
+use Rattle.std.proofs.Common.{◌∙◌, refl}
 use Rattle.osm_blocks.specs.Tables.{texts_of}
 use Rattle.osm_blocks.proofs.Exits.{Becomes-exit}
 use Rattle.osm_blocks.proofs.GroupChain.{group_step, data-no_table, data-no_texts, data-no_groups, data-groups}

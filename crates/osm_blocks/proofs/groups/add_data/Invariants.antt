@@ -1,4 +1,3 @@
-use Rattle.std.proofs.Common.{◌≡◌}
 use Rattle.osm_blocks.specs.Messages.{◌>>=◌, steps, fields_left_in}
 use Rattle.osm_blocks.specs.Drafts.{with_data}
 use Rattle.osm_blocks.specs.Tables.{texts_of}

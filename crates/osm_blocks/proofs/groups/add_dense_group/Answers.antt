@@ -1,4 +1,4 @@
-use Rattle.std.proofs.Common.{◌≡◌, sym, refl}
+use Rattle.std.proofs.Common.{refl}
 use Rattle.osm_blocks.proofs.GroupChain.{dense-missing, dense-more, dense-alone}
 use Rattle.osm_blocks.proofs.groups.add_dense_group.Goals as goal
 

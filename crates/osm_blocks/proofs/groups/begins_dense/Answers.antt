@@ -1,4 +1,3 @@
-use Rattle.std.proofs.Common.{◌≡◌, sym}
 use Rattle.osm_blocks.proofs.GroupChain.{begins-field, begins-none}
 use Rattle.osm_blocks.proofs.groups.begins_dense.Goals as goal
 

@@ -1,4 +1,3 @@
-use Rattle.std.proofs.Common.{◌≡◌}
 use Rattle.std.specs.Prelude.{is_some}
 use Rattle.osm_blocks.specs.Messages.{◌>>=◌, each, fields_left_in}
 use Rattle.osm_blocks.specs.Headers.{feature_of, features_in}

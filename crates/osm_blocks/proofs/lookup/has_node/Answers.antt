@@ -1,7 +1,6 @@
 use Rattle.std.proofs.Common.{◌≡◌, ◌∙◌, ◌+◌, ◌-◌, ◌≤◌, ◌<ℤ◌, ◌≤ℤ◌, ℤ, pos, ◌+ℤ◌, ◌-ℤ◌, min, sym, ap, subst, rules, arith, true, false, w64, FitsSigned, length, to_z, of_z}
 use Rattle.std.specs.Prelude.{int_lt, unsigned_abs}
 use Rattle.std.proofs.lemmas.Int.{ints, to_z-of_z}
-use Rattle.osm_blocks.specs.Lookups.{OnlyWithin}
 use Rattle.osm_blocks.proofs.Narrowing.{before_first, behind_last, span_least, places, none_left_out, distance, nearer, below_of, not_below_of}
 use Rattle.osm_blocks.proofs.lookup.has_node.Goals as goal
 

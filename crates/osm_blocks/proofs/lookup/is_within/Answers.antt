@@ -1,6 +1,6 @@
-use Rattle.std.proofs.Common.{◌≡◌, ◌∙◌, ◌+◌, ◌-◌, ◌/◌, ◌<ℤ◌, sym, ap, rules, arith, true, false, w64, FitsSigned, get_or, to_z, of_z}
+use Rattle.std.proofs.Common.{◌≡◌, ◌∙◌, ◌+◌, ◌-◌, ◌/◌, sym, ap, rules, arith, true, false, w64, FitsSigned, get_or, to_z, of_z}
 use Rattle.std.specs.Prelude.{int_lt}
-use Rattle.std.proofs.lemmas.Int.{ints, to_z-of_z}
+use Rattle.std.proofs.lemmas.Int.{to_z-of_z}
 use Rattle.osm_blocks.proofs.Narrowing.{above_middle, below_middle, nowhere, above_of, below_of}
 use Rattle.osm_blocks.proofs.lookup.is_within.Goals as goal
 

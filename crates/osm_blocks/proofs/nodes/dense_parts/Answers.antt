@@ -1,4 +1,4 @@
-use Rattle.std.proofs.Common.{rules, ◌≡◌, ◌∙◌, sym, ap, refl}
+use Rattle.std.proofs.Common.{sym, refl}
 use Rattle.osm_blocks.proofs.PartChains.{dense_parts-no_ids, dense_parts-no_lats, dense_parts-no_lons, dense_parts-all, dense_parts-more}
 use Rattle.osm_blocks.proofs.nodes.dense_parts.Goals as goal
 

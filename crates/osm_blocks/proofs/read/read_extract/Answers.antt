@@ -1,4 +1,4 @@
-use Rattle.std.proofs.Common.{◌≡◌, ◌∙◌, sym, ap, subst, rules, arith}
+use Rattle.std.proofs.Common.{◌∙◌, sym, ap, subst, arith}
 use Rattle.host_port.specs.Told.{Told}
 use Rattle.osm_blocks.specs.Extracts.{IsExtract}
 use Rattle.std.proofs.lemmas.Result.{err_from_is_err_and}

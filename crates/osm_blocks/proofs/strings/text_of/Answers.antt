@@ -1,4 +1,4 @@
-use Rattle.std.proofs.Common.{◌≡◌, ◌∙◌, sym}
+use Rattle.std.proofs.Common.{sym}
 use Rattle.wire_read.specs.Fields.{seen}
 use Rattle.osm_blocks.proofs.Texts.{text_of-text, text_of-other}
 use Rattle.osm_blocks.proofs.strings.text_of.Goals as goal

@@ -1,4 +1,4 @@
-use Rattle.std.proofs.Common.{◌≡◌, ◌∙◌, sym, ap, map}
+use Rattle.std.proofs.Common.{◌∙◌, sym, ap, map}
 use Rattle.std.proofs.lemmas.List.{map_push}
 use Rattle.osm_blocks.specs.Strings.{text_of}
 use Rattle.osm_blocks.proofs.Loops.{texts-begun, each-ok, each-stop, each-fault, each-end}

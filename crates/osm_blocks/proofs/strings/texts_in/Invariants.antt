@@ -1,5 +1,4 @@
-use Rattle.std.proofs.Common.{◌≡◌, map}
-use Rattle.std.specs.Prelude.{is_some}
+use Rattle.std.proofs.Common.{map}
 use Rattle.osm_blocks.specs.Strings.{text_of, texts_in}
 use Rattle.osm_blocks.proofs.Loops.{Going, each_after}
 use Rattle.osm_blocks.proofs.strings.texts_in.Given as goal

@@ -1,4 +1,4 @@
-use Rattle.std.proofs.Common.{◌≡◌, ◌<◌, sym, length, arith, rules}
+use Rattle.std.proofs.Common.{◌≡◌, ◌<◌, sym, length, arith}
 use Rattle.std.proofs.lemmas.List.{nil_from_length}
 use Rattle.std.proofs.lemmas.Bool.Decides.{nat_tests}
 use Rattle.osm_blocks.proofs.OneNumber.{number_in-one, number_in-two, number_in-fault}

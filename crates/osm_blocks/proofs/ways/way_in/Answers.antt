@@ -1,4 +1,4 @@
-use Rattle.std.proofs.Common.{◌≡◌, ◌∙◌, sym, ap, Some, w64, FitsSigned, rules}
+use Rattle.std.proofs.Common.{◌∙◌, sym, ap, Some, w64, FitsSigned, rules}
 use Rattle.std.proofs.lemmas.Int.{to_z-of_z}
 use Rattle.osm_blocks.proofs.Exits.{Answers-exit}
 use Rattle.osm_blocks.proofs.WayChain.{way_in-no_parts, way_in-no_key, way_in-no_value, way_in-other_tag, way_in-no_refs, way_in-all, made_same}

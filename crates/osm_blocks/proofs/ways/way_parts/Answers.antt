@@ -1,4 +1,4 @@
-use Rattle.std.proofs.Common.{◌≡◌, sym, refl}
+use Rattle.std.proofs.Common.{sym, refl}
 use Rattle.osm_blocks.proofs.PartChains.{way_parts-no_id, way_parts-no_keys, way_parts-no_values, way_parts-no_refs, way_parts-all, way_parts-more}
 use Rattle.osm_blocks.proofs.ways.way_parts.Goals as goal
 

@@ -1,8 +1,8 @@
-use Rattle.std.proofs.Common.{rules, ◌≡◌, ◌∙◌, sym, ap, true, false, FitsSigned, w32, w64, ℤ, List, [], ◌∷◌, ◌++◌, Some, to_z, of_z}
+use Rattle.std.proofs.Common.{◌≡◌, ◌∙◌, sym, ap, true, w32, w64, List, [], ◌∷◌, ◌++◌, Some, to_z, of_z}
 use Rattle.osm_model.specs.declared.nodes.OsmNode.{OsmNode}
 use Rattle.std.proofs.lemmas.Int.{to_z-of_z}
 use Rattle.osm_blocks.specs.Limits.{may_add_node}
-use Rattle.osm_blocks.proofs.Growth.{with_node-added, with_node-refused, place_fits, may_add_node-parts, bare}
+use Rattle.osm_blocks.proofs.Growth.{with_node-added, with_node-refused, place_fits, may_add_node-parts}
 use Rattle.osm_blocks.proofs.Rules.{Kept-node, keeps, kept_of, made_bare}
 use Rattle.osm_blocks.proofs.draft.Draft.add_node.Goals as goal
 

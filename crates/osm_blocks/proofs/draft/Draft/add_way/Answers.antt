@@ -1,4 +1,4 @@
-use Rattle.std.proofs.Common.{◌≡◌, ◌∙◌, sym, ap, true, false}
+use Rattle.std.proofs.Common.{◌≡◌, ◌∙◌, sym, true}
 use Rattle.osm_blocks.specs.Limits.{may_add_way}
 use Rattle.osm_blocks.proofs.Rules.{Kept-way, keeps, kept_of}
 use Rattle.osm_blocks.proofs.draft.Draft.add_way.Goals as goal

@@ -1,6 +1,6 @@
-use Rattle.std.proofs.Common.{◌≡◌, sym, ap, rules, arith, length, subst, List, [], All}
+use Rattle.std.proofs.Common.{sym, arith, length, subst, [], All}
 use Rattle.osm_model.specs.OsmNode.{IsPlaced}
-use Rattle.osm_model.specs.Extract.{NodesRise, WaysRise, RelationsRise, refs_in, tags_in}
+use Rattle.osm_model.specs.Extract.{NodesRise, WaysRise, refs_in, tags_in}
 use Rattle.osm_blocks.proofs.Growth.{limits_true}
 use Rattle.osm_blocks.proofs.draft.Draft.finish.Goals as goal
 
