@@ -1,6 +1,5 @@
 -- Pieces along a run: the steps of a piece, and the piece of a step that starts at a junction.
-use Rattle.std.proofs.Common.{◌≡◌, ℕ, zero, suc, ◌+◌, ◌-◌, ◌<◌, ◌≤◌, refl, sym, ◌∙◌, ap, subst, List, length, ℤ, Bool, true, false, inl, inr, arith}
-use Rattle.std.proofs.lemmas.Bool.{cases_Bool, cases_lt}
+use Rattle.std.proofs.Common.{◌≡◌, ℕ, zero, suc, ◌+◌, ◌-◌, ◌<◌, refl, sym, ◌∙◌, ap, subst, List, length, ℤ, Bool, true, false, arith}
 use Rattle.osm_model.specs.declared.extract.Extract.{Extract}
 use Rattle.road_pieces.specs.declared.steps.Step.{Step}
 use Rattle.road_pieces.specs.DirectedPiece.{DirectedPiece}
@@ -10,7 +9,7 @@ use Rattle.road_pieces.specs.Steps.{node, step_start, step_end, NextAlong, GoesO
 use Rattle.road_pieces.specs.Pieces.{IsPiece, piece_start, piece_end, up, down, steps}
 use Rattle.road_pieces.specs.Walks.{MayStep, MayRide}
 use Rattle.road_pieces.proofs.Splits.{last_end, Rest, Made}
-use Rattle.road_pieces.proofs.Ends.{first_place, last_place}
+use Rattle.road_pieces.proofs.Nearest.{piece_ahead, piece_back}
 
 module _ (x : Extract) (asked mode : ℕ) where
   abbrev After : Step → List Step → Type 0
@@ -76,79 +75,20 @@ module _ (x : Extract) (asked mode : ℕ) where
       ends = down_last (to - from - 1) from;
     }
 
-    -- the next place after k with a junction
-    record Next (k : ℕ) : Type 0 where
-      place : ℕ
-      after : k < place
-      inside : place < size
-      stops : at place ≡ true
-      plain : (j : ℕ) → k < j → j < place → at j ≡ false
-
-    skip : (k : ℕ) → Next (k + 1) → at (k + 1) ≡ false → Next k
-    skip k n without = record {
-      place = n.place;
-      after = omega (arith, n.after);
-      inside = n.inside;
-      stops = n.stops;
-      plain = λ j h l. elim (cases_lt (k + 1) j) [ inl past ↦ n.plain j past l | inr here ↦ ap at {x = j} {y = k + 1} (omega arith) ∙ without ];
-    }
-
-    next_place : (left k : ℕ) → k + 1 + left + 1 ≡ size → Next k
-    next_place zero k e = record {
-      place = k + 1;
-      after = omega arith;
-      inside = omega arith;
-      stops = last_place x way number (k + 1) (omega arith);
-      plain = λ j h l. absurd (omega arith);
-    }
-    next_place (suc left) k e =
-        elim (cases_Bool (at (k + 1))) [
-          | inl found ↦ record { place = k + 1; after = omega arith; inside = omega arith; stops = found; plain = λ j h l. absurd (omega arith) }
-          | inr without ↦ skip k (next_place left (k + 1) (omega arith)) without
-        ]
-
-    -- the last place up to k with a junction
-    record Last (k : ℕ) : Type 0 where
-      place : ℕ
-      before : place ≤ k
-      stops : at place ≡ true
-      plain : (j : ℕ) → place < j → j ≤ k → at j ≡ false
-
-    down_skip : (k : ℕ) → Last k → at (suc k) ≡ false → Last (suc k)
-    down_skip k l without = record {
-      place = l.place;
-      before = omega (arith, l.before);
-      stops = l.stops;
-      plain = λ j h m. elim (cases_lt k j) [ inl past ↦ ap at {x = j} {y = suc k} (omega arith) ∙ without | inr here ↦ l.plain j h here ];
-    }
-
-    last_stop : (k : ℕ) → k < size → Last k
-    last_stop zero h =
-        record { place = 0; before = omega arith; stops = first_place x way number h; plain = λ j l m. absurd (omega arith) }
-    last_stop (suc k) h =
-        elim (cases_Bool (at (suc k))) [
-          | inl found ↦ record { place = suc k; before = omega arith; stops = found; plain = λ j l m. absurd (omega arith) }
-          | inr without ↦ down_skip k (last_stop k (omega arith)) without
-        ]
-
     -- the piece that begins with a step
     abbrev Opens : Step → Type 0
     Opens s = (p : DirectedPiece) × (MayRide x asked mode p × ((ts : List Step) × Steps p s ts))
 
     opens_ahead : (k : ℕ) → Uses x mode way true → k + 1 < size → at k ≡ true → Opens (ahead k)
     opens_ahead k uses h here =
-        let n : Next k = next_place (size - k - 2) k (omega arith) in
-        let is : IsPiece x (record { way = way; run = number; from = k; to = n.place; forward = true }) =
-        record { rises = n.after; inside = n.inside; begins = here; ends = n.stops; plain = n.plain } in
-        (record { way = way; run = number; from = k; to = n.place; forward = true }, (record { exists = is; kept = kept; uses = uses }, (up way number (k + 1) (n.place - k - 1), up_shape k n.place is uses)))
+        let (to, is) = piece_ahead x way number k h here in
+        (record { way = way; run = number; from = k; to = to; forward = true }, (record { exists = is; kept = kept; uses = uses }, (up way number (k + 1) (to - k - 1), up_shape k to is uses)))
 
     opens_back : (k : ℕ) → Uses x mode way false → k + 1 < size → at (k + 1) ≡ true → Opens (back k)
     opens_back k uses h here =
-        let l : Last k = last_stop k (omega arith) in
-        let is : IsPiece x (record { way = way; run = number; from = l.place; to = k + 1; forward = false }) =
-        record { rises = omega (arith, l.before); inside = h; begins = l.stops; ends = here; plain = λ j m n. l.plain j m (omega arith) } in
-        let first : back (l.place + (k + 1 - l.place - 1)) ≡ back k = ap back {x = l.place + (k + 1 - l.place - 1)} {y = k} (omega (arith, l.before)) in
-        (record { way = way; run = number; from = l.place; to = k + 1; forward = false }, (record { exists = is; kept = kept; uses = uses }, (down way number l.place (k + 1 - l.place - 1), subst (λ s. Steps (record { way = way; run = number; from = l.place; to = k + 1; forward = false }) s (down way number l.place (k + 1 - l.place - 1))) first (down_shape l.place (k + 1) is uses))))
+        let (from, is) = piece_back x way number k h here in
+        let first : back (from + (k + 1 - from - 1)) ≡ back k = ap back {x = from + (k + 1 - from - 1)} {y = k} (omega (arith, is.rises)) in
+        (record { way = way; run = number; from = from; to = k + 1; forward = false }, (record { exists = is; kept = kept; uses = uses }, (down way number from (k + 1 - from - 1), subst (λ s. Steps (record { way = way; run = number; from = from; to = k + 1; forward = false }) s (down way number from (k + 1 - from - 1))) first (down_shape from (k + 1) is uses))))
 
   -- each piece is made of a first step and those after it
   shape_at : (way : ℤ) (number from to : ℕ) (forward : Bool) → MayRide x asked mode (record { way = way; run = number; from = from; to = to; forward = forward }) → (s : Step) × ((ts : List Step) × Steps (record { way = way; run = number; from = from; to = to; forward = forward }) s ts)

@@ -17,12 +17,12 @@ pub same_id : (n : ℤ) → int_eq n n ≡ true
 same_id n = (signed_Decides n n).1 refl
 
 -- a run that isn't empty is one of its way's
-has_place : (r : List (List ℤ)) (k : ℕ) → 0 < length (get_or r k []) → k < length r
+pub has_place : (r : List (List ℤ)) (k : ℕ) → 0 < length (get_or r k []) → k < length r
 has_place [] k h = absurd (omega arith)
 has_place (r ∷ rs) zero h = omega arith
 has_place (r ∷ rs) (suc k) h = omega (arith, has_place rs k h)
 
-has_none : (k : ℕ) → 0 < length (get_or {A = List ℤ} [] k []) → ⊥
+pub has_none : (k : ℕ) → 0 < length (get_or {A = List ℤ} [] k []) → ⊥
 has_none k h = omega (arith, has_place [] k h)
 
 -- the chosen way, or one of those after it

@@ -1,6 +1,9 @@
+mod Members
+mod Spans
 pub mod Splits
 mod Ends
 pub mod Patterns
+mod Nearest
 mod Along
 mod Own
 mod Fits
@@ -15,4 +18,9 @@ mod CourseLemmas
 mod PartLemmas
 mod CutLemmas
 pub mod Agree
+mod RowLengths
+mod RowPieces
+mod ListAgree
+mod PlainLemmas
+mod PlainRows
 mod WorkedRows

@@ -73,14 +73,14 @@ module _ (nodes : List OsmNode) (rise : NodesRise nodes) (p : ℕ) (inside : p <
           ]
 
 -- a node that is an end of a run counts twice in it
-times-cons : (n m : ℤ) (run : List ℤ) → times n (m ∷ run) ≡ cond (int_eq m n) 1 0 + times n run
+pub times-cons : (n m : ℤ) (run : List ℤ) → times n (m ∷ run) ≡ cond (int_eq m n) 1 0 + times n run
 times-cons n m run = sum_by-cons (λ k. cond (int_eq k n) 1 0) m run
 
-first_once : (n : ℤ) (run : List ℤ) → is_first n run ≡ true → 1 ≤ times n run
+pub first_once : (n : ℤ) (run : List ℤ) → is_first n run ≡ true → 1 ≤ times n run
 first_once n [] h = absurd (both_ways _ refl h)
 first_once n (m ∷ run) h = omega (arith, times-cons n m run, cond-true {A = ℕ} (int_eq m n) 1 0 h)
 
-last_once : (n : ℤ) (run : List ℤ) → is_last n run ≡ true → 1 ≤ times n run
+pub last_once : (n : ℤ) (run : List ℤ) → is_last n run ≡ true → 1 ≤ times n run
 last_once n [] h = absurd (both_ways _ refl h)
 last_once n (m ∷ []) h = omega (arith, times-cons n m [], cond-true {A = ℕ} (int_eq m n) 1 0 h)
 last_once n (m ∷ (k ∷ run)) h = omega (arith, times-cons n m (k ∷ run), last_once n (k ∷ run) h)

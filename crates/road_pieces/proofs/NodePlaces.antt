@@ -14,7 +14,7 @@ use Rattle.road_pieces.specs.Runs.{has_node}
 use Rattle.road_pieces.specs.Lines.{place_of}
 
 -- two ids of which one is below the other are two
-below_differs : (a b : ℤ) → a <ℤ b → int_eq a b ≡ false
+pub below_differs : (a b : ℤ) → a <ℤ b → int_eq a b ≡ false
 below_differs a b h = false_from_ne_true (int_eq a b) (λ e. absurd (omega (arith, ints, (signed_Decides a b).0 e)))
 
 above_differs : (a b : ℤ) → b <ℤ a → int_eq a b ≡ false

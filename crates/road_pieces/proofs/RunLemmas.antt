@@ -89,15 +89,15 @@ dedup_push r [] = refl
 dedup_push r (x ∷ xs) = deduped_push x r xs
 
 -- a list put before the first stretch
-abbrev onto : List ℤ → List (List ℤ) → List (List ℤ)
+abbrev pub onto : List ℤ → List (List ℤ) → List (List ℤ)
 onto s [] = s ∷ []
 onto s (t ∷ ts) = (s ++ t) ∷ ts
 
-onto_lengthen : (s : List ℤ) (r : ℤ) (l : List (List ℤ)) → onto s (lengthen r l) ≡ onto (s ++ r ∷ []) l
+pub onto_lengthen : (s : List ℤ) (r : ℤ) (l : List (List ℤ)) → onto s (lengthen r l) ≡ onto (s ++ r ∷ []) l
 onto_lengthen s r [] = refl
 onto_lengthen s r (t ∷ ts) = ap (λ u. u ∷ ts) (sym (append_assoc s (r ∷ []) t))
 
-onto_nothing : (test : ℤ → Bool) (refs : List ℤ) → onto [] (stretches test refs) ≡ stretches test refs
+pub onto_nothing : (test : ℤ → Bool) (refs : List ℤ) → onto [] (stretches test refs) ≡ stretches test refs
 onto_nothing test [] = refl
 onto_nothing test (r ∷ refs) = nothing_by (test r) (stretches test refs)
   where
@@ -109,10 +109,10 @@ onto_nothing test (r ∷ refs) = nothing_by (test r) (stretches test refs)
     nothing_by true l = lengthened l
     nothing_by false l = refl
 
-abbrev long_enough : List ℤ → Bool
+abbrev pub long_enough : List ℤ → Bool
 long_enough run = nat_le 2 (length run)
 
-abbrev runs_of : List (List ℤ) → List (List ℤ)
+abbrev pub runs_of : List (List ℤ) → List (List ℤ)
 runs_of parts = filter long_enough (map (dedup int_eq) parts)
 
 first_kept : (s : List ℤ) (ts : List (List ℤ)) → runs_of ((s ++ []) ∷ ts) ≡ kept (dedup int_eq s) ++ runs_of ts

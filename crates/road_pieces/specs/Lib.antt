@@ -8,6 +8,7 @@ pub mod Lengths
 pub mod Walks
 pub mod Turns
 pub mod Rows
+pub mod ListWalks
 pub mod Lines
 pub mod Heads
 pub mod Parts

@@ -114,7 +114,7 @@ fn make_junctions(
 }
 
 /// The junction of a node.
-fn junction_of(node: &OsmNode) -> Junction
+pub(crate) fn junction_of(node: &OsmNode) -> Junction
     ensures { result ≡ junction_row node.now }
 {
     Junction {

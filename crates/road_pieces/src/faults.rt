@@ -1,6 +1,8 @@
 //! Why roads are refused.
 
 use std::alloc::AllocError;
+use std::error::Error;
+use std::fmt;
 
 /// The causes, first those that stand first.
 #[derive(Clone, Copy, Debug, PartialEq, Eq)]
@@ -18,6 +20,28 @@ pub enum CutFault {
     },
     OutOfMemory,
 }
+
+impl fmt::Display for CutFault {
+    fn fmt<W: fmt::Write>(&self, f: &mut fmt::Formatter<W>) -> fmt::Result {
+        match self {
+            CutFault::TooManyPieces { count } => {
+                write!(f, "{count} pieces are more than 4000000")
+            }
+            CutFault::EdgeTooLong {
+                way,
+                run,
+                piece,
+                cm,
+            } => write!(
+                f,
+                "piece {piece} of run {run} of way {way} has {cm} cm, more than 268435455"
+            ),
+            CutFault::OutOfMemory => write!(f, "out of memory"),
+        }
+    }
+}
+
+impl Error for CutFault {}
 
 impl From<AllocError> for CutFault {
     ghost use Rattle.std.specs.Prelude.{◌≡◌};

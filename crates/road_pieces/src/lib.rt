@@ -1,6 +1,8 @@
 //! Roads as runs of segments, and as pieces between junctions.
 #![tactic(auto)]
 
+#[cfg(test)]
+mod comparison;
 mod counts;
 mod courses;
 mod crossings;
@@ -10,6 +12,8 @@ mod laws;
 mod lines;
 mod parts;
 mod places;
+#[cfg(test)]
+mod plain;
 mod rows;
 mod rules;
 mod steps;
@@ -19,6 +23,6 @@ mod tests;
 
 pub use cutting::cut;
 pub use faults::CutFault;
-pub use laws::{turns_agree, walks_agree};
+pub use laws::{list_agrees, turns_agree, walks_agree};
 pub use rows::{Junction, Junctions, Piece, Pieces, Roads};
 pub use steps::Step;

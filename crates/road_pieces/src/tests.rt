@@ -1,6 +1,6 @@
 //! Roads of small extracts, cut by hand.
 
-use crate::{CutFault, Roads, cut};
+use crate::{CutFault, Roads, cut, list_agrees, turns_agree, walks_agree};
 use osm_model::{Extract, Nodes, OsmNode, OsmWay, Refs, Relations, Tag, TagText, Tags, Ways};
 use std::alloc::{AllocError, Global};
 use std::test::Fail;
@@ -15,13 +15,18 @@ fn node(alloc: Global, id: i64, lat: i32) -> OsmNode {
     }
 }
 
+/// A tag.
+fn tag(alloc: Global, key: &str, value: &str) -> Result<Tag, AllocError> {
+    Ok(Tag {
+        key: TagText::from_str(alloc, key)?,
+        value: TagText::from_str(alloc, value)?,
+    })
+}
+
 /// Residential way 7 with these refs.
 fn way(alloc: Global, refs: &[i64]) -> Result<OsmWay, AllocError> {
     let mut tags = Tags::new(alloc);
-    tags.push(Tag {
-        key: TagText::from_str(alloc, "highway")?,
-        value: TagText::from_str(alloc, "residential")?,
-    })?;
+    tags.push(tag(alloc, "highway", "residential")?)?;
     let refs = Refs::from_vec(Vec::from_slice(alloc, refs)?);
     Ok(OsmWay { id: 7, tags, refs })
 }
@@ -123,4 +128,91 @@ fn longest_piece(rt: HostRuntime) -> Result<(), Fail> {
         assert_eq!(rt; length, cm, "to {lat}");
     }
     Ok(())
+}
+
+// A node with a barrier is a junction where it stands in a run, and `barrier=no` is none. Nodes 2 and 5
+// have the tag; node 5 stands in no run.
+#[test]
+fn barriers(rt: HostRuntime) -> Result<(), Fail> {
+    let alloc = rt.alloc();
+    for (value, ends, junctions) in [
+        (
+            "gate",
+            [(1, 2, 11_132), (2, 3, 11_132)].as_slice(),
+            [(1, false), (2, true), (3, false)].as_slice(),
+        ),
+        (
+            "no",
+            [(1, 3, 22_264)].as_slice(),
+            [(1, false), (3, false)].as_slice(),
+        ),
+    ] {
+        let mut nodes = Nodes::new(alloc);
+        for (id, lat) in [(1, 0), (2, 10_000), (3, 20_000), (5, 40_000)] {
+            let mut made = node(alloc, id, lat);
+            if id == 2 || id == 5 {
+                made.tags.push(tag(alloc, "barrier", value)?)?;
+            }
+            nodes.push(made)?;
+        }
+        let mut ways = Ways::new(alloc);
+        ways.push(way(alloc, &[1, 2, 3])?)?;
+        let extract = Extract::of_lists(nodes, ways, Relations::new(alloc)).ok_or("no extract")?;
+        let roads = cut(alloc, &extract).ok().ok_or("refused")?;
+        let found = ends_of(alloc, &roads)?;
+        assert_eq!(rt; found.as_slice(), ends, "of {value}");
+        let mut crossings = Vec::new(alloc);
+        for junction in roads.junctions.as_slice() {
+            crossings.push((junction.osm, junction.barrier))?;
+        }
+        assert_eq!(rt; crossings.as_slice(), junctions, "of {value}");
+    }
+    Ok(())
+}
+
+// Each place of the refs 1, 2, 1, 2, .. is a junction.
+#[test]
+fn most_pieces(rt: HostRuntime) -> Result<(), Fail> {
+    let alloc = rt.alloc();
+    let mut refs = Vec::with_capacity(alloc, 4_000_002)?;
+    for _ in 0..2_000_001 {
+        refs.push(1)?;
+        refs.push(2)?;
+    }
+    let extract = with_refs(alloc, refs.as_slice())?.ok_or("no extract")?;
+    let fault = cut(alloc, &extract).err();
+    assert_eq!(rt; fault, Some(CutFault::TooManyPieces { count: 4_000_001 }));
+    Ok(())
+}
+
+#[test]
+fn texts(rt: HostRuntime) -> Result<(), Fail> {
+    for (fault, text) in [
+        (
+            CutFault::TooManyPieces { count: 4_000_001 },
+            "4000001 pieces are more than 4000000",
+        ),
+        (
+            CutFault::EdgeTooLong {
+                way: -7,
+                run: 1,
+                piece: 2,
+                cm: 268_435_456,
+            },
+            "piece 2 of run 1 of way -7 has 268435456 cm, more than 268435455",
+        ),
+        (CutFault::OutOfMemory, "out of memory"),
+    ] {
+        let said = fault.to_string(rt.alloc())?;
+        assert_eq!(rt; said.as_str(), text);
+    }
+    Ok(())
+}
+
+// The laws hold for all that they name; a call takes nothing and does nothing.
+#[test]
+fn laws() {
+    walks_agree();
+    turns_agree();
+    list_agrees();
 }

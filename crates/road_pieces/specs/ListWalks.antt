@@ -1,0 +1,40 @@
+-- Walks over the list of pieces. Of a piece only its start, its end and its length are used.
+use Rattle.std.specs.Prelude.{◌≡◌, ◌↔◌, ⊤, ℕ, ℤ, Bool, true, List, [], ◌∷◌, sum_by, if◌then◌else◌}
+use Rattle.std.specs.List.{Contains}
+use Rattle.osm_model.specs.declared.extract.Extract.{Extract}
+use Rattle.road_pieces.specs.declared.rows.Piece.{Piece}
+use Rattle.road_pieces.specs.Paths.{Leads}
+use Rattle.road_pieces.specs.Runs.{is_junction}
+use Rattle.road_pieces.specs.Rows.{piece_rows}
+use Rattle.road_pieces.specs.Walks.{RoadWalk}
+
+-- a piece of the list, walked from its start to its end, or back
+pub record Ride : Type 0 where
+  pub piece : Piece
+  pub forward : Bool
+
+abbrev pub ride_start : Ride → ℤ
+ride_start ride = if ride.forward then ride.piece.start else ride.piece.end
+
+abbrev pub ride_end : Ride → ℤ
+ride_end ride = if ride.forward then ride.piece.end else ride.piece.start
+
+-- its piece stands in the list
+abbrev pub IsRide : List Piece → Ride → Type 0
+IsRide pieces ride = Contains pieces ride.piece
+
+-- a walk over the list: pieces of it, each in one direction and each starting where the one before it ends,
+-- lead from a to b; the lengths add up
+pub record PlainWalk (pieces : List Piece) (a b : ℤ) (total : ℕ) : Type 0 where
+  pub rides : List Ride
+  pub leads : Leads (IsRide pieces) ride_start ride_end (λ ride next. ⊤) a rides b
+  pub length_is : sum_by (λ ride. ride.piece.cm) rides ≡ total
+
+-- the bit of a mode: auto, pedestrian, bicycle, truck, bus
+abbrev pub IsMode : ℕ → Type 0
+IsMode mode = Contains (1 ∷ 2 ∷ 4 ∷ 8 ∷ 64 ∷ []) mode
+
+-- The law of listed pieces: where all modes are asked, the roads, walked by single segments, have between two
+-- junctions exactly the walks that the list of pieces has.
+abbrev pub ListsWalks : Type 0
+ListsWalks = (x : Extract) (mode : ℕ) → IsMode mode → (a b : ℤ) → is_junction x a ≡ true → is_junction x b ≡ true → (total : ℕ) → RoadWalk x 79 mode a b total ↔ PlainWalk (piece_rows x) a b total
