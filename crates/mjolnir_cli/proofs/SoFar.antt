@@ -7,9 +7,9 @@ use Rattle.pbf_blobs.specs.Frames.{Frames}
 use Rattle.pbf_blobs.specs.Answers.{AnswersFault}
 use Rattle.pbf_blobs.specs.declared.fault.PbfFault.{PbfFault}
 use Rattle.pbf_blobs.specs.declared.fault.PbfFault.TheVariants as pbf
-use Rattle.mjolnir_cli.specs.Failures.{of_pbf}
+use Rattle.mjolnir_cli.specs.Failures.{of_pbf, cause_of}
 use Rattle.mjolnir_cli.specs.Answers.{blob_line, blob_lines, ListsBlobs, StopsAt}
-use Rattle.mjolnir_cli.specs.Listing.{IfOfBytes}
+use Rattle.mjolnir_cli.specs.Listing.{IfOfInput}
 
 -- the text is the lines of blobs that lead from the input's start to the place
 pub record ListedTo (bytes : List ℕ) (at : ℕ) (text : List ℕ) : Type 0 where
@@ -37,7 +37,7 @@ pub lists_all : (bytes : List ℕ) (at : ℕ) (text : List ℕ) → ListedTo byt
 lists_all bytes at text so_far is = (so_far.blobs, ends_with bytes at text Ends so_far is, so_far.lines)
 
 -- a fault of the frames behind the blobs is the one with which the input is refused
-pub stops : (bytes : List ℕ) (at : ℕ) (text : List ℕ) (fault : PbfFault) → ListedTo bytes at text → AnswersFault fault (next_of at (drop at bytes)) → IfOfBytes (of_pbf fault) (StopsAt bytes (of_pbf fault))
+pub stops : (bytes : List ℕ) (at : ℕ) (text : List ℕ) (fault : PbfFault) → ListedTo bytes at text → AnswersFault fault (next_of at (drop at bytes)) → IfOfInput (cause_of (of_pbf fault)) (StopsAt bytes (of_pbf fault))
 stops bytes at text pbf.Read so_far is = tt
 stops bytes at text (pbf.Truncated place) so_far is = (so_far.blobs, ends_with bytes at text (Cut place) so_far is)
 stops bytes at text pbf.OutOfMemory so_far is = tt

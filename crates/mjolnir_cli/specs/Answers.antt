@@ -1,14 +1,27 @@
--- What a request's answer is, for the bytes of its input: the text that is said when it is done, or the
--- failure with which the input is refused.
-use Rattle.std.specs.Prelude.{◌≡◌, ℕ, List, [], ◌∷◌, ◌++◌}
+-- What a request's answer is, for the bytes of its input: the files that are put and the text that is said when
+-- it is done, or the failure with which the input is refused.
+use Rattle.std.specs.Prelude.{◌≡◌, ◌⊎◌, ℕ, List, [], ◌∷◌, ◌++◌, Option, Some, None, Result, Ok, Err}
 use Rattle.std.specs.List.{flat_map}
 use Rattle.std.specs.Fmt.{decimal}
 use Rattle.pbf_blobs.specs.declared.blob.Blob.{Blob}
 use Rattle.pbf_blobs.specs.Next.{Ends, Cut, NotPlain}
 use Rattle.pbf_blobs.specs.Frames.{Frames}
+use Rattle.osm_model.specs.declared.extract.Extract.{Extract}
+use Rattle.osm_blocks.specs.Objects.{draft_of}
+use Rattle.osm_blocks.specs.Extracts.{Extracted, CutAt, OtherAt, Reads}
+use Rattle.road_pieces.specs.declared.rows.Junction.{Junction}
+use Rattle.road_pieces.specs.declared.rows.Piece.{Piece}
+use Rattle.road_pieces.specs.declared.faults.CutFault.{CutFault}
+use Rattle.road_pieces.specs.declared.faults.CutFault.TheVariants as cut_faults
+use Rattle.road_pieces.specs.Rows.{junction_rows, piece_rows, refusal}
+use Rattle.mjolnir_cli.specs.declared.answer.Answer.{Answer}
 use Rattle.mjolnir_cli.specs.declared.failure.Failure.{Failure}
-use Rattle.mjolnir_cli.specs.declared.failure.Failure.TheVariants.{Words, Read, Truncated, NotBuilt, OutOfMemory}
-use Rattle.mjolnir_cli.specs.Words.{Request, Blobs}
+use Rattle.mjolnir_cli.specs.declared.failure.Failure.TheVariants.{Truncated, NotBuilt, Pieces, EdgeTooLong, OutOfMemory}
+use Rattle.mjolnir_cli.specs.Words.{Request, Blobs, Build, list_path}
+use Rattle.mjolnir_cli.specs.Failures.{of_cut}
+use Rattle.mjolnir_cli.specs.PlainList.{plain_list}
+
+-- ---- blobs
 
 -- the line of a blob: the place of its triple, its type and its size
 abbrev pub blob_line : Blob → List ℕ
@@ -25,14 +38,68 @@ ListsBlobs bytes text = (blobs : List Blob) × Frames bytes 0 blobs Ends × (tex
 abbrev pub StopsAt : List ℕ → Failure → Type 0
 StopsAt bytes (Truncated at) = (blobs : List Blob) × Frames bytes 0 blobs (Cut at)
 StopsAt bytes (NotBuilt at) = (blobs : List Blob) × Frames bytes 0 blobs (NotPlain at)
-StopsAt bytes Words = ⊥
-StopsAt bytes Read = ⊥
-StopsAt bytes OutOfMemory = ⊥
+StopsAt bytes other = ⊥
 
--- An input of these bytes is answered by this text.
-abbrev pub IsAnswer : Request → List ℕ → List ℕ → Type 0
-IsAnswer (Blobs path) bytes text = ListsBlobs bytes text
+-- No file is put, and the text is the lines of the blobs.
+pub record IsListed (bytes : List ℕ) (answer : Answer) : Type 0 where
+  pub unput : answer.files ≡ []
+  pub lists : ListsBlobs bytes answer.text
+
+-- ---- build
+
+-- The bytes are the plain extract x; it has no relations.
+pub record Spells (bytes : List ℕ) (x : Extract) : Type 0 where
+  pub objects : Reads bytes (Extracted (draft_of x))
+  pub relations : x.relations ≡ []
+
+-- The bytes are an extract whose roads pass no limit, and which has these junctions and pieces.
+pub record IsCut (bytes : List ℕ) (junctions : List Junction) (pieces : List Piece) : Type 0 where
+  pub extract : Extract
+  pub spelled : Spells bytes extract
+  pub within : refusal (piece_rows extract) ≡ None
+  pub junctions_are : junctions ≡ junction_rows extract
+  pub pieces_are : pieces ≡ piece_rows extract
+
+-- The bytes are an extract whose roads pass no limit; the one file is the list of its junctions and pieces, and
+-- nothing is said.
+pub record IsBuilt (output bytes : List ℕ) (answer : Answer) : Type 0 where
+  pub extract : Extract
+  pub spelled : Spells bytes extract
+  pub within : refusal (piece_rows extract) ≡ None
+  pub files : answer.files ≡ (list_path output, plain_list extract) ∷ []
+  pub silent : answer.text ≡ []
+
+-- The bytes are an extract whose roads pass this limit.
+pub record PassesLimit (bytes : List ℕ) (limit : CutFault) : Type 0 where
+  pub extract : Extract
+  pub spelled : Spells bytes extract
+  pub passed : refusal (piece_rows extract) ≡ Some limit
+
+-- The bytes are cut off or no plain extract from a place on, or a limit is passed.
+abbrev pub IsNotBuilt : List ℕ → Failure → Type 0
+IsNotBuilt bytes (Truncated at) = Reads bytes (CutAt at)
+IsNotBuilt bytes (NotBuilt at) = Reads bytes (OtherAt at)
+IsNotBuilt bytes (Pieces count) = PassesLimit bytes (cut_faults.TooManyPieces count)
+IsNotBuilt bytes (EdgeTooLong way run piece cm) = PassesLimit bytes (cut_faults.EdgeTooLong way run piece cm)
+IsNotBuilt bytes other = ⊥
+
+-- what a failure of the roads is: want of memory, or the limit that they pass
+abbrev pub IsPassed : Failure → Option CutFault → Type 0
+IsPassed failure limit = (failure ≡ OutOfMemory) ⊎ ((fault : CutFault) × (limit ≡ Some fault) × (failure ≡ of_cut fault))
+
+-- ---- each request
+
+-- An input of these bytes is answered by this answer.
+abbrev pub IsAnswer : Request → List ℕ → Answer → Type 0
+IsAnswer (Blobs path) bytes answer = IsListed bytes answer
+IsAnswer (Build input output) bytes answer = IsBuilt output bytes answer
 
 -- An input of these bytes is refused with this failure.
 abbrev pub IsRefused : Request → List ℕ → Failure → Type 0
 IsRefused (Blobs path) bytes failure = StopsAt bytes failure
+IsRefused (Build input output) bytes failure = IsNotBuilt bytes failure
+
+-- A request ends so for an input of these bytes: with this answer, or refused with this failure.
+abbrev pub EndsSo : Request → List ℕ → Result Answer Failure → Type 0
+EndsSo request bytes (Ok answer) = IsAnswer request bytes answer
+EndsSo request bytes (Err failure) = IsRefused request bytes failure

@@ -1,35 +1,73 @@
 -- Why a command isn't done: the status that the program ends with, and the line that it says.
 use Rattle.std.specs.Prelude.{ℕ, List, [], ◌∷◌, ◌++◌, codes}
-use Rattle.std.specs.Fmt.{decimal}
+use Rattle.std.specs.Fmt.{decimal, signed_decimal}
 use Rattle.host_port.specs.declared.host.HostFault.{HostFault}
 use Rattle.host_port.specs.declared.host.HostFault.TheVariants as host_faults
 use Rattle.pbf_blobs.specs.declared.fault.PbfFault.{PbfFault}
 use Rattle.pbf_blobs.specs.declared.fault.PbfFault.TheVariants as pbf_faults
+use Rattle.osm_blocks.specs.declared.read.ExtractFault.{ExtractFault}
+use Rattle.osm_blocks.specs.declared.read.ExtractFault.TheVariants as extract_faults
+use Rattle.road_pieces.specs.declared.faults.CutFault.{CutFault}
+use Rattle.road_pieces.specs.declared.faults.CutFault.TheVariants as cut_faults
 use Rattle.mjolnir_cli.specs.declared.failure.Failure.{Failure}
-use Rattle.mjolnir_cli.specs.declared.failure.Failure.TheVariants.{Words, Read, Truncated, NotBuilt, OutOfMemory}
+use Rattle.mjolnir_cli.specs.declared.failure.Failure.TheVariants.{Words, Read, Put, Truncated, NotBuilt, Pieces, EdgeTooLong, OutOfMemory}
+
+-- what a failure is due to
+pub data Cause : Type 0 where
+  OfWords : Cause
+  OfReading : Cause
+  OfPutting : Cause
+  -- the bytes of the input
+  OfBytes : Cause
+  -- a limit that the roads of the input pass
+  OfLimits : Cause
+  OfMemory : Cause
+
+abbrev pub cause_of : Failure → Cause
+cause_of Words = OfWords
+cause_of Read = OfReading
+cause_of Put = OfPutting
+cause_of (Truncated at) = OfBytes
+cause_of (NotBuilt at) = OfBytes
+cause_of (Pieces count) = OfLimits
+cause_of (EdgeTooLong way run piece cm) = OfLimits
+cause_of OutOfMemory = OfMemory
+
+-- each cause has its status
+abbrev pub status_for : Cause → ℕ
+status_for OfWords = 2
+status_for OfReading = 3
+status_for OfPutting = 4
+status_for OfBytes = 5
+status_for OfLimits = 6
+status_for OfMemory = 7
 
 abbrev pub status_of : Failure → ℕ
-status_of Words = 2
-status_of Read = 3
-status_of (Truncated at) = 5
-status_of (NotBuilt at) = 5
-status_of OutOfMemory = 7
+status_of failure = status_for (cause_of failure)
 
 -- the text of the line, without its end
 abbrev pub text_of : Failure → List ℕ
 text_of Words = codes "error 2 words"
 text_of Read = codes "error 3 read"
+text_of Put = codes "error 4 put"
 text_of (Truncated at) = codes "error 5 Truncated at=" ++ decimal at
 text_of (NotBuilt at) = codes "error 5 NotBuilt at=" ++ decimal at
+text_of (Pieces count) = codes "error 6 Pieces count=" ++ decimal count
+text_of (EdgeTooLong way run piece cm) =
+    codes "error 6 EdgeTooLong way=" ++ (signed_decimal way ++ (codes " run=" ++ (decimal run ++ (codes " piece=" ++ (decimal piece ++ (codes " cm=" ++ decimal cm))))))
 text_of OutOfMemory = codes "error 7 memory"
 
 abbrev pub line_of : Failure → List ℕ
 line_of failure = text_of failure ++ 10 ∷ []
 
--- what a fault of the host is to a command that reads
+-- what a fault of the host is to a command that reads, and to one that puts
 abbrev pub of_host : HostFault → Failure
 of_host host_faults.Failed = Read
 of_host host_faults.OutOfMemory = OutOfMemory
+
+abbrev pub of_put : HostFault → Failure
+of_put host_faults.Failed = Put
+of_put host_faults.OutOfMemory = OutOfMemory
 
 -- what a fault of the frames is to a command
 abbrev pub of_pbf : PbfFault → Failure
@@ -37,3 +75,16 @@ of_pbf pbf_faults.Read = Read
 of_pbf (pbf_faults.Truncated at) = Truncated at
 of_pbf (pbf_faults.NotBuilt at) = NotBuilt at
 of_pbf pbf_faults.OutOfMemory = OutOfMemory
+
+-- what a fault of an extract is to a command
+abbrev pub of_extract : ExtractFault → Failure
+of_extract extract_faults.Read = Read
+of_extract (extract_faults.Truncated at) = Truncated at
+of_extract (extract_faults.NotBuilt at) = NotBuilt at
+of_extract extract_faults.OutOfMemory = OutOfMemory
+
+-- what a fault of the roads is to a command
+abbrev pub of_cut : CutFault → Failure
+of_cut (cut_faults.TooManyPieces count) = Pieces count
+of_cut (cut_faults.EdgeTooLong way run piece cm) = EdgeTooLong way run piece cm
+of_cut cut_faults.OutOfMemory = OutOfMemory

@@ -1,6 +1,9 @@
 pub mod Words
 pub mod Commands
 pub mod Failures
+pub mod PlainList
 pub mod Answers
+pub mod RoadLists
+pub mod Puts
 pub mod Said
 pub mod Listing

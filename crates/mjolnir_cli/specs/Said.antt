@@ -31,6 +31,16 @@ pub record OnlySaid (old new : Told) : Type 0 where
   pub place : new.place ≡ old.place
   pub puts : new.puts ≡ old.puts
 
+-- no file was put or changed
+pub record Unput (old new : Told) : Type 0 where
+  pub files : new.files ≡ old.files
+  pub puts : new.puts ≡ old.puts
+
 -- the statuses that the program ends with
 abbrev pub IsStatus : ℕ → Type 0
-IsStatus status = (status ≡ 0) ⊎ (status ≡ 2) ⊎ (status ≡ 3) ⊎ (status ≡ 5) ⊎ (status ≡ 7) ⊎ (status ≡ 9)
+IsStatus status =
+    (status ≡ 0) ⊎ (status ≡ 2) ⊎ (status ≡ 3) ⊎ (status ≡ 4) ⊎ (status ≡ 5) ⊎ (status ≡ 6) ⊎ (status ≡ 7) ⊎ (status ≡ 9)
+
+-- the statuses of words, inputs and limits that are refused, and of a fault of reading
+abbrev pub IsRefusal : ℕ → Type 0
+IsRefusal status = (status ≡ 2) ⊎ (status ≡ 3) ⊎ (status ≡ 5) ⊎ (status ≡ 6)

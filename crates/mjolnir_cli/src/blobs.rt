@@ -5,7 +5,8 @@ ghost use Rattle.std.specs.String.{string_bytes};
 ghost use Rattle.host_port.specs.Told.{named};
 ghost use Rattle.pbf_blobs.specs.Input.{OnlyMoved};
 ghost use Rattle.mjolnir_cli.specs.Answers.{ListsBlobs, StopsAt, blob_line};
-ghost use Rattle.mjolnir_cli.specs.Listing.{IfOfBytes, IsOfInput, CountedRead, IfRead, OnlyRead};
+ghost use Rattle.mjolnir_cli.specs.Failures.{cause_of};
+ghost use Rattle.mjolnir_cli.specs.Listing.{IfOfInput, IsMet, CountedRead, IfRead, OnlyRead};
 
 use crate::failure::Failure;
 use host_port::Host;
@@ -16,8 +17,8 @@ use std::alloc::{AllocError, Global};
 pub(crate) fn blob_list<H: Host>(alloc: Global, path: &str, host: &mut H) -> Result<String, Failure>
     ensures listed { IfOk result (λ text. (bytes : List ℕ) → named path.now (H.told host.old) ≡ Some bytes → ListsBlobs bytes (string_bytes text)) }
     ensures whole { OnOk result ((bytes : List ℕ) → named path.now (H.told host.old) ≡ Some bytes → (H.told host.new).place ≡ Some (length bytes)) }
-    ensures refused { IfErr result (λ failure. (bytes : List ℕ) → named path.now (H.told host.old) ≡ Some bytes → IfOfBytes failure (StopsAt bytes failure)) }
-    ensures causes { IfErr result IsOfInput }
+    ensures refused { IfErr result (λ failure. (bytes : List ℕ) → named path.now (H.told host.old) ≡ Some bytes → IfOfInput (cause_of failure) (StopsAt bytes failure)) }
+    ensures met { IfErr result (λ failure. IsMet (cause_of failure)) }
     ensures others { OnlyRead (H.told host.old) (H.told host.new) }
     ensures reads { CountedRead (H.read_faults host.old) (H.read_faults host.new) result }
     ensures puts { H.put_faults host.new ≡ H.put_faults host.old }
@@ -33,8 +34,8 @@ pub(crate) fn blob_list<H: Host>(alloc: Global, path: &str, host: &mut H) -> Res
 fn list_blobs<H: Host>(alloc: Global, host: &mut H) -> Result<String, Failure>
     ensures listed { IfOk result (λ text. (bytes : List ℕ) → (H.told host.old).input ≡ Some bytes → (H.told host.old).place ≡ Some 0 → ListsBlobs bytes (string_bytes text)) }
     ensures whole { OnOk result ((bytes : List ℕ) → (H.told host.old).input ≡ Some bytes → (H.told host.old).place ≡ Some 0 → (H.told host.new).place ≡ Some (length bytes)) }
-    ensures refused { IfErr result (λ failure. (bytes : List ℕ) → (H.told host.old).input ≡ Some bytes → (H.told host.old).place ≡ Some 0 → IfOfBytes failure (StopsAt bytes failure)) }
-    ensures causes { IfErr result IsOfInput }
+    ensures refused { IfErr result (λ failure. (bytes : List ℕ) → (H.told host.old).input ≡ Some bytes → (H.told host.old).place ≡ Some 0 → IfOfInput (cause_of failure) (StopsAt bytes failure)) }
+    ensures met { IfErr result (λ failure. IsMet (cause_of failure)) }
     ensures others { OnlyMoved (H.told host.old) (H.told host.new) }
     ensures reads { CountedRead (H.read_faults host.old) (H.read_faults host.new) result }
     ensures puts { H.put_faults host.new ≡ H.put_faults host.old }

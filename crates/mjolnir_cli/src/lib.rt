@@ -1,14 +1,22 @@
-//! The command line: what the words ask for, what is said, and the status at the end.
+//! The command line: what the words ask for, what is put and said, and the status at the end.
 #![tactic(auto)]
 
+mod answer;
 mod blobs;
+mod build;
+mod deliver;
 mod failure;
+mod law;
+mod plain;
+mod put;
 mod say;
 #[cfg(test)]
 mod tests;
 mod top;
 mod words;
 
+pub use answer::Answer;
 pub use failure::Failure;
+pub use law::one_end;
 pub use top::mjolnir;
 pub use words::{Command, asked};

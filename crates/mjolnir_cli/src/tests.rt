@@ -1,4 +1,8 @@
-//! The command `blobs` over a host in memory: its text, its refusals with their places, and its faults.
+//! The command `blobs` over a host in memory: its text, its refusals with their places, and its faults. The command
+//! `build` is in `builds`.
+
+mod builds;
+mod plain_extract;
 
 use crate::mjolnir;
 use host_port::{Bytes, MemHost, NoGate, Text};

@@ -1,0 +1,87 @@
+-- The roads of an extract that was read.
+use Rattle.std.proofs.Common.{◌≡◌, inl, inr, ℕ, sym, ap, subst, ◌∙◌, List, [], ◌∷◌, map, Some, Bool, true, false, cond}
+use Rattle.std.specs.Prelude.{All, filter, Result, Ok, Err, IfOk, IfErr, OnOk, None}
+use Rattle.std.proofs.lemmas.List.Elements.{All-nil, All-cons, All-head, All-tail}
+use Rattle.fixed_geo.specs.Place.{IsPlace}
+use Rattle.osm_model.specs.declared.nodes.OsmNode.{OsmNode}
+use Rattle.osm_model.specs.declared.extract.Extract.{Extract}
+use Rattle.osm_model.specs.OsmNode.{IsPlaced}
+use Rattle.road_pieces.specs.declared.rows.Junction.{Junction}
+use Rattle.road_pieces.specs.declared.rows.Roads.{Roads}
+use Rattle.road_pieces.specs.declared.faults.CutFault.{CutFault}
+use Rattle.road_pieces.specs.declared.faults.CutFault.TheVariants as cut_faults
+use Rattle.road_pieces.specs.Runs.{is_junction}
+use Rattle.road_pieces.specs.Rows.{junction_row, junction_rows, piece_rows, refusal}
+use Rattle.mjolnir_cli.specs.declared.failure.Failure.{Failure}
+use Rattle.mjolnir_cli.specs.Failures.{cause_of, of_cut}
+use Rattle.mjolnir_cli.specs.Answers.{Spells, IsCut, IsBuilt, IsNotBuilt, IsPassed}
+use Rattle.mjolnir_cli.specs.declared.answer.Answer.{Answer}
+use Rattle.mjolnir_cli.specs.Words.{list_path}
+use Rattle.mjolnir_cli.specs.PlainList.{list_of}
+use Rattle.mjolnir_cli.specs.Listing.{IfOfInput}
+
+abbrev at_place : Junction → Type 0
+at_place junction = IsPlace junction.at
+
+kept : (test : OsmNode → Bool) (nodes : List OsmNode) → All IsPlaced nodes → All at_place (map junction_row (filter test nodes))
+kept test [] placed = All-nil at_place
+kept test (n ∷ ns) placed = by (test n) (kept test ns (All-tail IsPlaced n ns placed))
+  where
+    here : at_place (junction_row n)
+    here =
+        let p = All-head IsPlaced n ns placed in
+        record { from_south = p.from_south; to_north = p.to_north; from_west = p.from_west; to_east = p.to_east }
+
+    by : (b : Bool) → All at_place (map junction_row (filter test ns)) → All at_place (map junction_row (cond b (n ∷ filter test ns) (filter test ns)))
+    by true rest = All-cons at_place (junction_row n) (map junction_row (filter test ns)) here rest
+    by false rest = rest
+
+-- each junction is at a place
+pub placed_rows : (x : Extract) → All IsPlaced x.nodes → All (λ junction. IsPlace junction.at) (junction_rows x)
+placed_rows x placed = kept (λ n. is_junction x n.id) x.nodes placed
+
+passed_so : (bytes : List ℕ) (x : Extract) (fault : CutFault) → Spells bytes x → refusal (piece_rows x) ≡ Some fault → IfOfInput (cause_of (of_cut fault)) (IsNotBuilt bytes (of_cut fault))
+passed_so bytes x (cut_faults.TooManyPieces count) spelled is = record { extract = x; spelled = spelled; passed = is }
+passed_so bytes x (cut_faults.EdgeTooLong way run piece cm) spelled is = record { extract = x; spelled = spelled; passed = is }
+passed_so bytes x cut_faults.OutOfMemory spelled is = tt
+
+-- a failure of the roads is a limit that they pass, or want of memory
+pub passed : (bytes : List ℕ) (x : Extract) (failure : Failure) → Spells bytes x → IsPassed failure (refusal (piece_rows x)) → IfOfInput (cause_of failure) (IsNotBuilt bytes failure)
+passed bytes x failure spelled (inl memory) = rw memory tt
+passed bytes x failure spelled (inr h) =
+    subst (λ (f : Failure). IfOfInput (cause_of f) (IsNotBuilt bytes f)) (sym h.2) (passed_so bytes x h.0 spelled h.1)
+
+-- ---- what the cutting of an extract's roads answers
+
+pub if_cut : (bytes : List ℕ) (x : Extract) (answer : Result Roads Failure) → IfOk answer (λ roads. roads.junctions ≡ junction_rows x) → IfOk answer (λ roads. roads.pieces ≡ piece_rows x) → OnOk answer (refusal (piece_rows x) ≡ None)
+    → Spells bytes x → IfOk answer (λ roads. IsCut bytes roads.junctions roads.pieces)
+if_cut bytes x (Ok roads) junctions pieces within spelled =
+    record { extract = x; spelled = spelled; within = within; junctions_are = junctions; pieces_are = pieces }
+if_cut bytes x (Err failure) junctions pieces within spelled = tt
+
+-- a fact for all bytes, of an answer
+pub for_all : {A E : Type 0} (answer : Result A E) (P : A → List ℕ → Type 0) (Q R : List ℕ → Type 0) → ((bytes : List ℕ) → Q bytes → R bytes → IfOk answer (λ value. P value bytes)) → IfOk answer (λ value. (bytes : List ℕ) → Q bytes → R bytes → P value bytes)
+for_all (Ok value) P Q R each = each
+for_all (Err fault) P Q R each = tt
+
+pub if_placed : (x : Extract) (answer : Result Roads Failure) → All IsPlaced x.nodes → IfOk answer (λ roads. roads.junctions ≡ junction_rows x) → IfOk answer (λ roads. All (λ junction. IsPlace junction.at) roads.junctions)
+if_placed x (Ok roads) placed junctions = subst (All (λ junction. IsPlace junction.at)) (sym junctions) (placed_rows x placed)
+if_placed x (Err failure) placed junctions = tt
+
+-- the answer for roads that were cut
+pub built_of : (output bytes : List ℕ) (roads : Roads) (answer : Answer) → IsCut bytes roads.junctions roads.pieces → answer.files ≡ (list_path output, list_of roads.junctions roads.pieces) ∷ [] → answer.text ≡ [] → IsBuilt output bytes answer
+built_of output bytes roads answer is files text = record {
+  extract = is.extract;
+  spelled = is.spelled;
+  within = is.within;
+  files = files ∙ ap (λ list. (list_path output, list) ∷ []) (ap (λ js. list_of js roads.pieces) is.junctions_are ∙ ap (λ ps. list_of (junction_rows is.extract) ps) is.pieces_are);
+  silent = text;
+}
+
+pub if_passed : (bytes : List ℕ) (x : Extract) (answer : Result Roads Failure) → IfErr answer (λ failure. IsPassed failure (refusal (piece_rows x))) → Spells bytes x → IfErr answer (λ failure. IfOfInput (cause_of failure) (IsNotBuilt bytes failure))
+if_passed bytes x (Ok roads) is spelled = tt
+if_passed bytes x (Err failure) is spelled = passed bytes x failure spelled is
+
+pub for_all_err : {A E : Type 0} (answer : Result A E) (P : E → List ℕ → Type 0) (Q R : List ℕ → Type 0) → ((bytes : List ℕ) → Q bytes → R bytes → IfErr answer (λ fault. P fault bytes)) → IfErr answer (λ fault. (bytes : List ℕ) → Q bytes → R bytes → P fault bytes)
+for_all_err (Ok value) P Q R each = tt
+for_all_err (Err fault) P Q R each = each

@@ -1,0 +1,76 @@
+//! The text of the list of plain roads.
+
+ghost use Rattle.std.specs.Prelude.{◌≡◌, ◌++◌, flat_map, All, IfOk, OnOk};
+ghost use Rattle.std.specs.String.{string_bytes};
+ghost use Rattle.fixed_geo.specs.Place.{IsPlace};
+ghost use Rattle.mjolnir_cli.specs.PlainList.{tile_value, junction_line, piece_line, list_of};
+
+use fixed_geo::Point;
+use graph_id::GraphId;
+use road_pieces::{Junction, Piece, Roads};
+use std::alloc::{AllocError, Global};
+use tile_geometry::tile_of;
+
+/// The list of these roads: a line for each junction, then a line for each piece.
+pub(crate) fn plain_text(alloc: Global, roads: &Roads) -> Result<String, AllocError>
+    requires { All (λ junction. IsPlace junction.at) roads.now.junctions }
+    ensures { IfOk result (λ text. string_bytes text ≡ list_of roads.now.junctions roads.now.pieces) }
+{
+    let mut text = String::from_str(alloc, "mjolnir-plain 1\n")?;
+    push_junctions(&mut text, roads.junctions.as_slice())?;
+    push_pieces(&mut text, roads.pieces.as_slice())?;
+    Ok(text)
+}
+
+/// Adds the lines of these junctions.
+fn push_junctions(text: &mut String, junctions: &[Junction]) -> Result<(), AllocError>
+    requires { All (λ junction. IsPlace junction.at) junctions.now }
+    ensures { OnOk result (string_bytes text.new ≡ string_bytes text.old ++ flat_map junction_line junctions.now) }
+{
+    for junction in junctions {
+        push_junction(text, junction)?;
+    }
+    Ok(())
+}
+
+/// Adds the lines of these pieces.
+fn push_pieces(text: &mut String, pieces: &[Piece]) -> Result<(), AllocError>
+    ensures { OnOk result (string_bytes text.new ≡ string_bytes text.old ++ flat_map piece_line pieces.now) }
+{
+    for piece in pieces {
+        push_piece(text, piece)?;
+    }
+    Ok(())
+}
+
+/// Adds the line of a junction: its OSM id and its tile.
+fn push_junction(text: &mut String, junction: &Junction) -> Result<(), AllocError>
+    requires { IsPlace junction.now.at }
+    ensures { OnOk result (string_bytes text.new ≡ string_bytes text.old ++ junction_line junction.now) }
+{
+    writeln!(text, "n {} {}", junction.osm, tile_value(junction.at))
+}
+
+/// Adds the line of a piece: its way, run and number, the junctions at its ends and its length.
+fn push_piece(text: &mut String, piece: &Piece) -> Result<(), AllocError>
+    ensures { OnOk result (string_bytes text.new ≡ string_bytes text.old ++ piece_line piece.now) }
+{
+    let key = piece.key;
+    writeln!(
+        text,
+        "p {} {} {} {} {} {}",
+        key.way, key.run, key.piece, piece.start, piece.end, piece.cm
+    )
+}
+
+/// The tile of a place on level 2, as the value of the GraphId with the id 0 in it.
+#[tactic(auto, unfolding(crate::specs::PlainList::tile_value))]
+fn tile_value(at: Point) -> u64
+    requires { IsPlace at }
+    ensures { result ≡ tile_value at }
+{
+    match GraphId::make(2, tile_of(2, at), 0) {
+        Ok(id) => id.value(),
+        Err(_) => 0,
+    }
+}
