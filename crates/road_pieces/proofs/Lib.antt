@@ -8,6 +8,7 @@ mod Along
 mod Own
 mod Fits
 mod NodePlaces
+mod NodeBuckets
 mod HeadLemmas
 mod SurveyLemmas
 mod RunLemmas

@@ -13,3 +13,4 @@ pub mod Lines
 pub mod Heads
 pub mod Parts
 pub mod Counts
+pub mod NodeIndex

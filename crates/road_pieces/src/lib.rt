@@ -10,6 +10,7 @@ mod cutting;
 mod faults;
 mod laws;
 mod lines;
+mod node_index;
 mod parts;
 mod places;
 #[cfg(test)]

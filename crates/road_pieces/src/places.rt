@@ -4,24 +4,33 @@ ghost use Rattle.std.specs.Prelude.{◌≡◌, ◌<◌, true, false, length, IfS
 ghost use Rattle.osm_model.specs.Extract.{NodesRise};
 ghost use Rattle.road_pieces.specs.Runs.{has_node};
 ghost use Rattle.road_pieces.specs.Lines.{place_of};
+ghost use Rattle.road_pieces.specs.NodeIndex.{OnlyWithin};
 
 use osm_model::OsmNode;
 use std::cmp::Ordering;
 
-/// The place of the node with that id, and `None` where there is none. It is sought at `guess` first:
-/// neighbours on a road are often neighbours in the list.
-pub(crate) fn find_node(nodes: &[OsmNode], id: &i64, guess: usize) -> Option<usize>
-    requires { NodesRise nodes.now }
+/// The place of the node with that id, and `None` where there is none. It is sought from `low` on and before
+/// `high`, since no node elsewhere has the id: at `guess` first, then by halves.
+pub(crate) fn find_within(
+    nodes: &[OsmNode],
+    low: usize,
+    high: usize,
+    id: &i64,
+    guess: usize,
+) -> Option<usize>
+    requires rises { NodesRise nodes.now }
+    requires only { OnlyWithin nodes.now id.now low high }
     ensures inside { IfSome result (λ place. place < length nodes.now) }
     ensures place { IfSome result (λ place. place_of nodes.now id.now ≡ place) }
     ensures some { IfSome result (λ _. has_node nodes.now id.now ≡ true) }
     ensures none { IfNone result (has_node nodes.now id.now ≡ false) }
 {
-    if guess < nodes.len() && nodes[guess].id.cmp(id).is_eq() {
+    // A guess elsewhere is wrong. It isn't looked at, which would cost a read of far memory.
+    if low <= guess && guess < high && nodes[guess].id.cmp(id).is_eq() {
         return Some(guess);
     }
-    let mut low = 0;
-    let mut high = nodes.len();
+    let mut low = low;
+    let mut high = high;
     while low < high {
         let middle = low + (high - low) / 2;
         match nodes[middle].id.cmp(id) {

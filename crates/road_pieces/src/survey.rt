@@ -4,10 +4,11 @@ ghost use Rattle.std.specs.Prelude.{◌≡◌, ◌<◌, ◌≤◌, ◌+◌, ◌+
 ghost use Rattle.osm_model.specs.Extract.{NodesRise};
 ghost use Rattle.road_pieces.specs.Runs.{has_node};
 ghost use Rattle.road_pieces.specs.Lines.{lines_from, all_lines};
+ghost use Rattle.road_pieces.specs.NodeIndex.{IsIndex};
 ghost use Rattle.road_pieces.specs.Rows.{routable_ways, missing_refs};
 
 use crate::lines::Lines;
-use crate::places::find_node;
+use crate::node_index::NodeIndex;
 use crate::rules::is_routable;
 use osm_model::{Extract, OsmNode};
 use std::alloc::{AllocError, Global};
@@ -28,13 +29,14 @@ pub(crate) fn find_lines(alloc: Global, extract: &Extract) -> Result<Survey, All
     ensures missing { IfOk result (λ s. s.missing ≡ missing_refs extract.now) }
 {
     let nodes = extract.nodes.as_slice();
+    let index = NodeIndex::new(alloc, nodes)?;
     let mut lines = Lines::new(alloc);
     let mut routable = 0;
     let mut missing = 0;
     for (place, way) in extract.ways.as_slice().iter().enumerate() {
         if is_routable(&way.tags) {
             routable += 1;
-            missing += add_way(&mut lines, nodes, place, way.refs.as_slice())?;
+            missing += add_way(&mut lines, nodes, &index, place, way.refs.as_slice())?;
         }
     }
     Ok(Survey {
@@ -48,11 +50,13 @@ pub(crate) fn find_lines(alloc: Global, extract: &Extract) -> Result<Survey, All
 fn add_way(
     lines: &mut Lines,
     nodes: &[OsmNode],
+    index: &NodeIndex,
     way: usize,
     refs: &[i64],
 ) -> Result<u64, AllocError>
     requires rises { NodesRise nodes.now }
     requires few { length nodes.now ≤ 10_000_000 }
+    requires index { IsIndex nodes.now index.now.first index.now.shift index.now.starts.items }
     requires short { length refs.now ≤ 20_000_000 }
     requires whole { lines.old.begun ≡ [] }
     ensures done { OnOk result (lines.new.done ≡ lines.old.done ++ lines_from nodes.now way 0 [] refs.now) }
@@ -63,7 +67,7 @@ fn add_way(
     let mut missing = 0;
     let mut guess = 0;
     for id in refs {
-        match find_node(nodes, id, guess) {
+        match index.find(nodes, id, guess) {
             Some(place) => {
                 lines.extend(place as u32)?;
                 guess = place + 1;

@@ -1,10 +1,10 @@
 -- The node is sought from `low` on and before `high`.
 use Rattle.std.proofs.Common.{◌-◌}
-use Rattle.road_pieces.proofs.NodePlaces.{IsBetween}
-use Rattle.road_pieces.proofs.places.find_node.Given as goal
+use Rattle.road_pieces.specs.NodeIndex.{OnlyWithin}
+use Rattle.road_pieces.proofs.places.find_within.Given as goal
 
 abbrev pub invariant-loop-low : goal.invariant-loop-low
-invariant-loop-low l = IsBetween l.nodes l.id l.low l.high
+invariant-loop-low l = OnlyWithin l.nodes l.id l.low l.high
 
 abbrev pub decreases-loop-low : goal.decreases-loop-low
 decreases-loop-low l = l.high - l.low
