@@ -1,0 +1,159 @@
+-- what a step told, as the seat's fields and the calls' clauses want it
+use Rattle.std.proofs.Common.{◌≡◌, ℕ, zero, suc, ◌-◌, ◌<◌, ◌≤◌, ◌≢◌, Bool, true, false, List, [], ◌∷◌, length, refl, ap, sym, ◌∙◌, subst, arith}
+use Rattle.std.specs.Prelude.{Option, Some, None}
+use Rattle.std.proofs.lemmas.Bool.Decides.{nat_tests}
+use Rattle.atomic_table.specs.Table.{rest}
+use Rattle.tile_machine.specs.At.{At}
+use Rattle.tile_table.specs.declared.view.View.{View}
+use Rattle.tile_table.specs.declared.view.Hand.{Hand}
+use Rattle.tile_table.specs.declared.view.Hand.TheVariants.{Empty, Holds}
+use Rattle.tile_table.specs.declared.answer.Claim.TheVariants.{Mine, Taken}
+use Rattle.tile_table.specs.declared.seat.Turn.{Turn}
+use Rattle.tile_table.specs.Counts.{bit, times, pairs}
+use Rattle.tile_table.specs.Slots.{slots_fit, is_none, is_only}
+use Rattle.tile_table.specs.Views.{tiles_by, with_claim, with_seen, with_take, with_known, knowing, with_lost, IsAnother}
+use Rattle.tile_table.specs.Steps.{Sat, claim_told, turn_told, Took, LostTo}
+use Rattle.tile_table.specs.Seats.{turn_place, turn_tile, turn_marked}
+use Rattle.tile_table.specs.Calls.{Claimed, TurnHad, TurnMissed}
+use Rattle.tile_table.proofs.Bits.{same-eq}
+use Rattle.tile_table.proofs.Sums.{times-append}
+
+module _ {S : Type 0} where
+  none-of : (xs : List (ℕ × S)) → is_none xs ≡ true → xs ≡ []
+  none-of [] e = refl
+  none-of (x ∷ xs) e = grind arith
+
+  -- no slot is out with an empty hand
+  pub none-out : (h : Hand) (xs : List (ℕ × S)) → h ≡ Empty → slots_fit h xs ≡ true → xs ≡ []
+  none-out h xs e fits = none-of xs (subst (λ g. slots_fit g xs ≡ true) e fits)
+
+  pub fits-none : (h : Hand) (xs : List (ℕ × S)) → h ≡ Empty → xs ≡ [] → slots_fit h xs ≡ true
+  fits-none h xs e nil = subst (λ g. slots_fit g xs ≡ true) (sym e) (subst (λ ys. is_none ys ≡ true) (sym nil) refl)
+
+  only-of : (j : ℕ) (xs : List (ℕ × S)) → is_only j xs ≡ true → (y : S) × (xs ≡ (j, y) ∷ [])
+  only-of j [] e = absurd (grind arith)
+  only-of j (x ∷ []) e = let q : x.0 ≡ j = grind (arith, nat_tests) in (x.1, ap (λ n. (n, x.1) ∷ []) q)
+  only-of j (x ∷ y ∷ ys) e = absurd (grind (arith, nat_tests))
+
+  -- the slot of the place in hand is out, and no other
+  pub only-out : (h : Hand) (xs : List (ℕ × S)) (j : ℕ) (m : Bool) → h ≡ Holds j m → slots_fit h xs ≡ true → (y : S) × (xs ≡ (j, y) ∷ rest xs) × (rest xs ≡ [])
+  only-out h xs j m e fits =
+      let o = only-of j xs (subst (λ g. slots_fit g xs ≡ true) e fits) in (o.0, o.1 ∙ ap (λ z. (j, o.0) ∷ z) (sym (ap rest o.1)), ap rest o.1)
+
+  pub is-only : (j : ℕ) (m : Bool) (y : S) → slots_fit (Holds j m) ((j, y) ∷ []) ≡ true
+  is-only j m y = grind (arith, nat_tests)
+
+module _ {T : Type 0} where
+  -- what each step of one seat leaves, as far as the seat's fields go
+  pub record Stays (m r : Sat T) : Type 0 where
+    pub first : r.0.first ≡ m.0.first
+    pub end : r.0.end ≡ m.0.end
+    pub world : r.0.world ≡ m.0.world
+    pub slots : slots_fit r.0.hand r.1 ≡ true
+
+  stays-by : (m r x : Sat T) → r ≡ x → x.0.first ≡ m.0.first → x.0.end ≡ m.0.end → x.0.world ≡ m.0.world → slots_fit x.0.hand x.1 ≡ true → Stays m r
+  stays-by m r x e a b w s =
+      record {
+        first = ap (λ y. y.0.first) e ∙ a;
+        end = ap (λ y. y.0.end) e ∙ b;
+        world = ap (λ y. y.0.world) e ∙ w;
+        slots = subst (λ y. slots_fit y.0.hand y.1 ≡ true) (sym e) s;
+      }
+
+  pub claim-stays : (i : ℕ) (m r : Sat T) (n : ℕ) → slots_fit m.0.hand m.1 ≡ true → claim_told i m n r → Stays m r
+  claim-stays i m r zero fits t = stays-by m r (with_claim m.0 i, m.1) t.0 refl refl refl fits
+  claim-stays i m r (suc by) fits t = stays-by m r (with_seen m.0 i by, m.1) t refl refl refl fits
+
+  pub claim-mine : (i : ℕ) (m r : Sat T) (n : ℕ) → n ≡ 0 → claim_told i m n r → Claimed m.0 i Mine r.0
+  claim-mine i m r zero e t = (ap (λ y. y.0) t.0, t.1)
+  claim-mine i m r (suc by) e t = absurd (omega arith)
+
+  pub claim-taken : (i : ℕ) (m r : Sat T) (n : ℕ) → n ≢ 0 → claim_told i m n r → Claimed m.0 i (Taken (n - 1)) r.0
+  claim-taken i m r zero ne t = absurd (ne refl)
+  claim-taken i m r (suc by) ne t = ap (λ y. y.0) t ∙ ap (λ n. with_seen m.0 i n) (omega arith)
+
+  had-stays : (j : ℕ) (m r : Sat T) (b : Bool) → m.1 ≡ [] → Took m j b r → Stays m r
+  had-stays j m r b nil t =
+      stays-by m r (with_take m.0 j b, (j, Some t.tile) ∷ m.1) t.after refl refl refl (subst (λ c. slots_fit (Holds j b) ((j, Some t.tile) ∷ c) ≡ true) (sym nil) (is-only j b (Some t.tile)))
+
+  pub turn-stays : (b : Bool) (j : ℕ) (m r : Sat T) (n : ℕ) → m.0.hand ≡ Empty → slots_fit m.0.hand m.1 ≡ true → turn_told b j m n r → Stays m r
+  turn-stays false j m r zero e fits t = had-stays j m r false (none-out m.0.hand m.1 e fits) t
+  turn-stays false j m r (suc zero) e fits t = stays-by m r (with_known m.0 j, m.1) t refl refl refl fits
+  turn-stays true j m r zero e fits t = absurd t
+  turn-stays true j m r (suc zero) e fits t = had-stays j m r true (none-out m.0.hand m.1 e fits) t
+  turn-stays false j m r (suc (suc h)) e fits t = stays-by m r (with_lost m.0 j h, m.1) t.0 refl refl refl fits
+  turn-stays true j m r (suc (suc h)) e fits t = stays-by m r (with_lost m.0 j h, m.1) t.0 refl refl refl fits
+
+  -- the word was free, with the spelling that was tried
+  pub turn-had : (b : Bool) (j : ℕ) (m r : Sat T) (n : ℕ) → n ≡ bit b → turn_told b j m n r → Took m j b r
+  turn-had false j m r zero e t = t
+  turn-had true j m r zero e t = absurd (omega arith)
+  turn-had false j m r (suc zero) e t = absurd (omega arith)
+  turn-had true j m r (suc zero) e t = t
+  turn-had false j m r (suc (suc h)) e t = absurd (omega arith)
+  turn-had true j m r (suc (suc h)) e t = absurd (omega arith)
+
+  -- it wasn't free
+  pub turn-missed : (b : Bool) (j : ℕ) (m r : Sat T) (n : ℕ) → 1 < n → turn_told b j m n r → LostTo m j (n - 2) r
+  turn-missed b j m r zero h t = absurd (omega arith)
+  turn-missed b j m r (suc zero) h t = absurd (omega arith)
+  turn-missed false j m r (suc (suc x)) h t = subst (λ n. LostTo m j n r) (omega arith) t
+  turn-missed true j m r (suc (suc x)) h t = subst (λ n. LostTo m j n r) (omega arith) t
+
+  -- it was read as "free, marked" by the try for the other spelling
+  pub turn-known : (j : ℕ) (m r : Sat T) (n : ℕ) → n ≡ 1 → turn_told false j m n r → r ≡ (with_known m.0 j, m.1)
+  turn-known j m r zero e t = absurd (omega arith)
+  turn-known j m r (suc zero) e t = t
+  turn-known j m r (suc (suc x)) e t = absurd (omega arith)
+
+  pub turn-marked : (j : ℕ) (m r : Sat T) (n : ℕ) → n ≤ 1 → turn_told true j m n r → Took m j true r
+  turn-marked j m r zero h t = absurd t
+  turn-marked j m r (suc zero) h t = t
+  turn-marked j m r (suc (suc x)) h t = absurd (omega arith)
+
+  -- the place that was just read as marked is known
+  pub knows-it : (j : ℕ) (m r : Sat T) → r ≡ (with_known m.0 j, m.1) → 0 < times j r.0.known
+  knows-it j m r e =
+      subst (λ y. 0 < times j y.0.known) (sym e) (omega (arith, times-append j m.0.known (j ∷ []), same-eq j j refl))
+
+  -- a try that was lost, after the word was read as "free, marked" or at once
+  pub missed : (knew : Bool) (j h : ℕ) (v : View T) (m r : Sat T) → m.0 ≡ knowing knew v j → LostTo m j h r → TurnMissed v j h r.0
+  missed knew j h v m r e t =
+      record {
+        knew = knew;
+        view = ap (λ y. y.0) t.0 ∙ ap (λ u. with_lost u j h) e;
+        another = subst (λ u. IsAnother h u) e t.1;
+      }
+
+  abbrev tile-in : T → List (ℕ × Option T) → T
+  tile-in d [] = d
+  tile-in d ((k, None) ∷ xs) = d
+  tile-in d ((k, Some t) ∷ xs) = t
+
+module _ {X T Q : Type 0} where
+  -- a turn that was had, after the word was read as "free, marked" or at once
+  pub had : (b : Bool) (j : ℕ) (v : View T) (m r : Sat T) (turn : Turn X T Q) (c : List (ℕ × Option T)) → m.0 ≡ knowing b v j → Took m j b r → r.1 ≡ (j, Some (turn_tile turn)) ∷ c
+      → turn_place turn ≡ j → turn_marked turn ≡ b → j < length v.world → TurnHad v j turn r.0
+  had b j v m r turn c e t out place marked inside =
+      let after : r.0 ≡ with_take (knowing b v j) j b = ap (λ y. y.0) t.after ∙ ap (λ u. with_take u j b) e in
+      let world : r.0.world ≡ v.world = ap (λ u. u.world) after in
+      let one : (j, Some t.tile) ∷ m.1 ≡ (j, Some (turn_tile turn)) ∷ c = sym (ap (λ y. y.1) t.after) ∙ out in
+      let tile : t.tile ≡ turn_tile turn = ap (tile-in t.tile) one in
+      let stands : At (tiles_by b r.0.world r.0.goal) j (turn_tile turn) =
+      subst (λ x. At (tiles_by b r.0.world r.0.goal) j x) tile
+      (subst (λ u. At (tiles_by b u.world u.goal) j t.tile) (sym (ap (λ y. y.0) t.after)) t.stands) in
+      record {
+        place = place;
+        view = after ∙ ap (λ a. with_take (knowing a v j) j a) (sym marked);
+        turn =
+            record {
+              hand = ap (λ u. u.hand) after ∙ ap (λ i. Holds i b) (sym place) ∙ ap (λ a. Holds (turn_place turn) a) (sym marked);
+              inside = omega (arith, place, inside, ap length world);
+              stands = subst (λ a. At (tiles_by a r.0.world r.0.goal) (turn_place turn) (turn_tile turn)) (sym marked) (subst (λ i. At (tiles_by b r.0.world r.0.goal) i (turn_tile turn)) (sym place) stands);
+            };
+        own_mark = λ p. marked ∙ t.own_mark (subst (λ xs. 0 < times j xs) (sym (ap (λ u. u.marks) e)) p);
+        own_claim =
+            λ p nil. marked ∙ t.own_claim
+            (subst (λ n. 0 < pairs n j m.0.claims) (sym (ap (λ u. u.first) e)) (subst (λ xs. 0 < pairs v.first j xs) (sym (ap (λ u. u.claims) e)) p))
+            (ap (times j) (ap (λ u. u.marks) e) ∙ nil);
+      }

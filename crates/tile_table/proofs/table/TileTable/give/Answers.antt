@@ -1,0 +1,23 @@
+use Rattle.std.proofs.Common.{◌≡◌, ap, ◌∙◌, arith}
+use Rattle.atomic_table.specs.Table.{rest}
+use Rattle.tile_table.proofs.Moves.{frees}
+use Rattle.tile_table.proofs.Told.{only-out}
+use Rattle.tile_table.proofs.table.TileTable.give.Goals as goal
+
+pub exchange-requires : goal.exchange-requires
+exchange-requires g c =
+    let seat = c.args.seat.now in
+    let o = only-out seat.seat.me.0.hand seat.seat.me.1 c.args.turn.place c.args.turn.marked c.requires.turn.hand seat.slots in
+    (c.requires.table, (o.0, o.1))
+
+pub store-requires : goal.store-requires
+store-requires g c =
+    let seat = c.args.seat.now in
+    let table = c.args.self.now in
+    let turn = c.requires.turn in
+    let moved = c.exchange.ensures in
+    let slots : seat.seat.table_id.slots ≡ table.table.shared.table_id.slots = ap (λ n. n.slots) c.requires.table in (
+      moved.0 ∙ c.requires.table,
+      omega (arith, table.words, table.slots, slots, seat.placed, seat.counted, turn.inside),
+      frees table.table.shared.table_id.slots _ _ seat.seat.me.0 (rest seat.seat.me.1) c.args.turn.place _ c.args.turn.marked c.args.turn.tile moved.3 (omega (arith, seat.live, seat.numbered)) turn.hand turn.stands c.free_turn.ensures,
+    )

@@ -1,0 +1,41 @@
+-- what each call answers, and the view that it leaves
+use Rattle.std.specs.Prelude.{◌≡◌, ℕ, ◌<◌, Bool, true, false, List, length, nat_lt}
+use Rattle.tile_machine.specs.At.{At}
+use Rattle.tile_table.specs.declared.view.View.{View}
+use Rattle.tile_table.specs.declared.answer.Claim.{Claim}
+use Rattle.tile_table.specs.declared.answer.Claim.TheVariants.{Mine, Taken}
+use Rattle.tile_table.specs.declared.seat.Turn.{Turn}
+use Rattle.tile_table.specs.declared.seat.Closed.{Closed}
+use Rattle.tile_table.specs.Counts.{times, pairs}
+use Rattle.tile_table.specs.Views.{tiles_by, with_claim, with_seen, with_take, knowing, with_lost, IsAnother}
+use Rattle.tile_table.specs.Seats.{turn_place, turn_marked, HasTurn}
+
+module _ {T : Type 0} where
+  -- a claim: the seat has it now, of a place that it hasn't marked, or it saw who has
+  abbrev pub Claimed : View T → ℕ → Claim → View T → Type 0
+  Claimed before i Mine after = (after ≡ with_claim before i) × (times i before.marks ≡ 0)
+  Claimed before i (Taken by) after = after ≡ with_seen before i by
+
+  -- a turn that wasn't had: another worker held it when its word was read
+  pub record TurnMissed (before : View T) (j holder : ℕ) (after : View T) : Type 0 where
+    -- whether the word had been read as "free, marked" just before
+    pub knew : Bool
+    pub view : after ≡ with_lost (knowing knew before j) j holder
+    pub another : IsAnother holder before
+
+module _ {X T Q : Type 0} where
+  -- a turn that was had
+  pub record TurnHad (before : View T) (j : ℕ) (had : Turn X T Q) (after : View T) : Type 0 where
+    pub place : turn_place had ≡ j
+    pub view : after ≡ with_take (knowing (turn_marked had) before j) j (turn_marked had)
+    pub turn : HasTurn after had
+    -- a tile that the seat marked is the finished one: a write is read back
+    pub own_mark : 0 < times j before.marks → turn_marked had ≡ true
+    -- a tile that it claimed under its own number, and hasn't marked, is the world's
+    pub own_claim : 0 < pairs before.first j before.claims → times j before.marks ≡ 0 → turn_marked had ≡ false
+
+  -- the tiles of a table at its end: one for each place, done exactly where the seat's marks have the place, and then the finished one, else the world's
+  pub record ClosedBy (v : View T) (tiles : List (Closed X T Q)) : Type 0 where
+    pub many : length tiles ≡ length v.world
+    pub done : (i : ℕ) (c : Closed X T Q) → At tiles i c → c.done ≡ nat_lt 0 (times i v.marks)
+    pub stands : (i : ℕ) (c : Closed X T Q) → At tiles i c → At (tiles_by c.done v.world v.goal) i c.tile

@@ -1,0 +1,25 @@
+-- how often something stands in a list, and sums over a list
+use Rattle.std.specs.Prelude.{ℕ, ◌+◌, Bool, true, false, ◌&&◌, List, [], ◌∷◌, ◌==◌}
+
+abbrev pub bit : Bool → ℕ
+bit true = 1
+bit false = 0
+
+-- 1 where the numbers are one, else 0
+abbrev pub same : ℕ → ℕ → ℕ
+same a b = bit (a == b)
+
+-- how often x stands in the list
+abbrev pub times : ℕ → List ℕ → ℕ
+times x [] = 0
+times x (y ∷ ys) = same y x + times x ys
+
+-- how often the pair of a and b stands in the list
+abbrev pub pairs : ℕ → ℕ → List (ℕ × ℕ) → ℕ
+pairs a b [] = 0
+pairs a b (p ∷ ps) = bit ((p.0 == a) && (p.1 == b)) + pairs a b ps
+
+-- f of each, added up
+abbrev pub total : {V : Type 0} → (V → ℕ) → List V → ℕ
+total f [] = 0
+total f (v ∷ vs) = f v + total f vs

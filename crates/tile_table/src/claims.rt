@@ -1,0 +1,51 @@
+//! Claims, and what a seat says of itself.
+
+ghost use Rattle.std.specs.Prelude.{◌≡◌, ℕ, ◌<◌, length};
+ghost use Rattle.tile_table.specs.Seats.{view, seat_name, IsAt};
+ghost use Rattle.tile_table.specs.Calls.{Claimed};
+
+use crate::answer::Claim;
+use crate::plays::TryClaim;
+use crate::seat::Seat;
+use crate::table::TileTable;
+use tile_machine::phase::Phase;
+
+impl<P: Phase> Seat<P> {
+    /// The number of its worker: the first of its range.
+    pub fn worker(&self) -> u64
+        ensures { result ≡ (view self.now).first }
+    {
+        self.number
+    }
+
+    /// The number of its table's tiles.
+    pub fn tiles(&self) -> u64
+        ensures { result ≡ length (view self.now).world }
+    {
+        self.count
+    }
+}
+
+impl<P: Phase> TileTable<P> {
+    /// Claims place `i` for the seat's worker. `Taken` says whose claim was read: it stays so.
+    pub fn claim(&self, seat: &mut Seat<P>, i: u64) -> Claim
+        requires table { IsAt self.now seat.old }
+        requires place { i < length (view seat.old).world }
+        ensures table { seat_name seat.new ≡ seat_name seat.old }
+        ensures view { Claimed (view seat.old) i result (view seat.new) }
+    {
+        let number = seat.number;
+        let shared = &self.table.shared;
+        let found = shared.compare_exchange::<TryClaim>(
+            &mut seat.seat,
+            3 * i as usize,
+            0,
+            number + 1,
+        );
+        if found == 0 {
+            Claim::Mine
+        } else {
+            Claim::Taken { by: found - 1 }
+        }
+    }
+}
