@@ -1,0 +1,5 @@
+pub mod Looks
+pub mod Rest
+pub mod Stays
+pub mod Tries
+pub mod Workers

@@ -1,0 +1,19 @@
+-- tries of one turn in a row, each of them in vain
+use Rattle.std.specs.Prelude.{◌≡◌, ℕ, ◌-◌, ◌<◌, List, ◌++◌, length, All, Result, Ok, Err}
+use Rattle.tile_machine.specs.At.{At}
+use Rattle.tile_machine.specs.declared.parts.PartFault.{PartFault}
+use Rattle.tile_machine.specs.declared.parts.PartFault.TheVariants.{Late, OutOfMemory}
+
+-- a seat's list of lost tries gained this many pairs, each of place j, of which the last names this holder
+pub record GainedTries (j holder count : ℕ) (before after : List (ℕ × ℕ)) : Type 0 where
+  pub tries : List (ℕ × ℕ)
+  pub gained : after ≡ before ++ tries
+  pub of_place : All (λ t. t.0 ≡ j) tries
+  pub many : length tries ≡ count
+  pub last : 0 < count → At tries (count - 1) (j, holder)
+
+-- P of the place and the holder, if the answer is Late
+abbrev pub IfLateAt : {A : Type 0} → Result A PartFault → (ℕ → ℕ → Type 0) → Type 0
+IfLateAt (Ok a) P = Unit {0}
+IfLateAt (Err OutOfMemory) P = Unit {0}
+IfLateAt (Err (Late place holder)) P = P place holder

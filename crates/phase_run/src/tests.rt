@@ -1,0 +1,157 @@
+//! What no clause says: that the calls succeed, that workers run at once, and what a worker meets at a held turn.
+
+ghost use Rattle.std.specs.Prelude.{◌≡◌, ◌≤◌, length, IfOk};
+
+use crate::{SeatParts, run_phase};
+use gates::HoldsFirst;
+use host_port::{Gate, NoGate};
+use plain_phases::{Failing, Meeting};
+use std::alloc::{AllocError, Global};
+use std::test::Fail;
+use std::thread::Threads;
+use sums::{Summand, Sums};
+use tile_machine::parts::{PartFault, Parts};
+use tile_table::answer::{Busy, Claim};
+use tile_table::table::TileTable;
+
+mod gates;
+mod plain_phases;
+mod sums;
+
+/// These values, none of which has a total yet.
+fn summands(alloc: Global, values: &[u32]) -> Result<Vec<Summand>, AllocError>
+    ensures { IfOk result (λ tiles. length tiles.items ≡ length values.now) }
+{
+    values
+        .iter()
+        .map(|value| Summand {
+            value: *value,
+            total: 0,
+        })
+        .collect(alloc)
+}
+
+/// The totals of 1, 2 and 3, by this many workers.
+fn totals<R: Threads + Sync, G: Gate>(
+    rt: &R,
+    alloc: Global,
+    workers: u64,
+    gate: &G,
+) -> Result<Vec<u64>, AllocError>
+    requires some { 1 ≤ workers }
+    requires few { workers ≤ 64 }
+{
+    let tiles = summands(alloc, &[1, 2, 3])?;
+    let done = run_phase(rt, alloc, &Sums, 1, tiles, workers, gate)?;
+    done.iter().map(|one| one.total).collect(alloc)
+}
+
+#[test]
+fn any_number_of_workers(rt: HostRuntime) -> Result<(), Fail> {
+    let alloc = rt.alloc();
+    assert_eq!(rt;
+        totals(&rt, alloc, 1, &NoGate)?.as_slice(),
+        [6, 6, 6].as_slice()
+    );
+    assert_eq!(rt;
+        totals(&rt, alloc, 2, &NoGate)?.as_slice(),
+        [6, 6, 6].as_slice()
+    );
+    assert_eq!(rt;
+        totals(&rt, alloc, 7, &NoGate)?.as_slice(),
+        [6, 6, 6].as_slice()
+    );
+    assert_eq!(rt;
+        totals(&rt, alloc, 64, &NoGate)?.as_slice(),
+        [6, 6, 6].as_slice()
+    );
+    Ok(())
+}
+
+#[test]
+fn no_tiles(rt: HostRuntime) -> Result<(), Fail> {
+    let done = run_phase(&rt, rt.alloc(), &Sums, 1, Vec::new(rt.alloc()), 2, &NoGate)?;
+    assert!(rt; done.is_empty());
+    Ok(())
+}
+
+/// Worker 0 holds the turn of a tile: worker 1 is told so, and so is whoever reads the tile's part through its seat. After the
+/// turn was given back worker 1 has it.
+#[test]
+fn a_held_tile_is_late(rt: HostRuntime) -> Result<(), Fail> {
+    let tiles = summands(rt.alloc(), &[1, 2, 3, 4])?;
+    let (table, mut seat) = TileTable::new(rt.alloc(), &Sums, tiles, 2)?;
+    let mut other = table.split(&mut seat, 1);
+    assert_eq!(rt; table.claim(&mut seat, 3), Claim::Mine);
+    assert_eq!(rt; table.claim(&mut other, 3), Claim::Taken { by: 0 });
+    match table.take(&mut seat, 3) {
+        Ok(turn) => {
+            match table.take(&mut other, 3) {
+                Ok(again) => table.give(&mut other, again),
+                Err(busy) => assert_eq!(rt; busy, Busy { holder: 0 }),
+            }
+            let mut parts = SeatParts::new(&Sums, &table, &mut other);
+            match parts.part(rt.alloc(), 3) {
+                Ok(part) => panic!(rt; "read {part} of a tile that is held"),
+                Err(fault) => {
+                    assert_eq!(rt;
+                        fault,
+                        PartFault::Late {
+                            place: 3,
+                            holder: 0
+                        }
+                    )
+                }
+            }
+            table.give(&mut seat, turn);
+        }
+        Err(busy) => panic!(rt; "held by {}", busy.holder),
+    }
+    match table.take(&mut other, 3) {
+        Ok(turn) => {
+            assert_eq!(rt; turn.tile().value, 4);
+            table.give(&mut other, turn);
+        }
+        Err(busy) => panic!(rt; "still held by {}", busy.holder),
+    }
+    Ok(())
+}
+
+/// The rewriting of each of two tiles holds until that of the other has begun.
+#[test]
+fn two_tiles_at_once(rt: HostRuntime) -> Result<(), Fail> {
+    let meeting = Meeting::new();
+    let tiles = [7u64, 8].to_vec(rt.alloc())?;
+    let done = run_phase(&rt, rt.alloc(), &meeting, 2, tiles, 2, &NoGate)?;
+    assert_eq!(rt; done.as_slice(), [7, 8].as_slice());
+    assert!(rt;
+        !meeting.has_missed(),
+        "one rewriting waited for the other in vain"
+    );
+    Ok(())
+}
+
+/// The worker that claims first is held until another has finished a tile.
+#[test]
+fn one_worker_is_held(rt: HostRuntime) -> Result<(), Fail> {
+    let gate = HoldsFirst::new();
+    let sums = totals(&rt, rt.alloc(), 2, &gate)?;
+    assert_eq!(rt; sums.as_slice(), [6, 6, 6].as_slice());
+    assert!(rt;
+        gate.has_held() && !gate.has_missed(),
+        "no other worker finished a tile"
+    );
+    Ok(())
+}
+
+/// The rewriting of one place after the other has no memory. With place 3, which isn't there, all goes well.
+#[test]
+fn no_memory_for_one_place(rt: HostRuntime) -> Result<(), Fail> {
+    for at in 0..4u64 {
+        let tiles = [7u64, 8, 9].to_vec(rt.alloc())?;
+        let phase = Failing { at };
+        let result = run_phase(&rt, rt.alloc(), &phase, 3, tiles, 2, &NoGate);
+        assert_eq!(rt; result.is_ok(), at == 3, "at {at}");
+    }
+    Ok(())
+}

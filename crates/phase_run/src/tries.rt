@@ -1,0 +1,39 @@
+//! A turn is tried again and again, but not for long.
+
+ghost use Rattle.std.specs.Prelude.{◌≡◌, ◌<◌, length, IfOk, IfErr};
+ghost use Rattle.tile_table.specs.declared.view.Hand.{Hand};
+ghost use Rattle.tile_table.specs.Seats.{view, seat_name, IsAt};
+ghost use Rattle.phase_run.specs.Looks.{TurnGot, TriedInVain, Looked};
+
+use tile_machine::phase::Phase;
+use tile_table::answer::Busy;
+use tile_table::seat::{Seat, Turn};
+use tile_table::table::TileTable;
+
+/// How often a turn is tried in a row. A turn is held for one copy or one put, so a worker that tries this often meets one that
+/// was stopped in between; then other work is better than more tries.
+const TRIES: u64 = 1000;
+
+/// The turn of place `j`, tried at most 1,000 times in a row. `Busy` names the worker that held it at the last try.
+pub(crate) fn turn_of<P: Phase>(
+    table: &TileTable<P>,
+    seat: &mut Seat<P>,
+    j: u64,
+) -> Result<Turn<P>, Busy>
+    requires table { IsAt table.now seat.old }
+    requires hand { (view seat.old).hand ≡ Hand.Empty }
+    requires place { j < length (view seat.old).world }
+    ensures table { seat_name seat.new ≡ seat_name seat.old }
+    ensures turn { IfOk result (λ turn. TurnGot (view seat.old) j turn (view seat.new)) }
+    ensures missed { IfErr result (λ busy. Looked seat.old seat.new) }
+    ensures tries { IfErr result (λ busy. TriedInVain j (view seat.old) (view seat.new) j busy.holder) }
+{
+    let mut holder = 0;
+    for tried in 0..TRIES {
+        match table.take(seat, j) {
+            Ok(turn) => return Ok(turn),
+            Err(busy) => holder = busy.holder,
+        }
+    }
+    Err(Busy { holder })
+}
