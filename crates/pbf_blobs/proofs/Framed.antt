@@ -5,14 +5,15 @@ use Rattle.std.proofs.lemmas.List.Elements.{All-drop}
 use Rattle.std.specs.Int.{w32, to_be_bytes}
 use Rattle.wire_read.specs.Varint.{AreBytes}
 use Rattle.pbf_blobs.specs.declared.blob.Blob.{Blob}
-use Rattle.pbf_blobs.specs.Triple.{IsPlainTriple, ArePlainTriples}
-use Rattle.pbf_blobs.specs.Next.{Outcome, Ends, Gives, Cut, NotPlain, next_of}
+use Rattle.pbf_blobs.specs.Triple.{IsTriple, AreTriples}
+use Rattle.pbf_blobs.specs.Next.{Outcome, Ends, Gives, Fails, next_of}
 use Rattle.pbf_blobs.specs.Means.{BeginsWithTriple}
 use Rattle.pbf_blobs.specs.Frames.{Frames, IsLast, IsFramedOneWay}
-use Rattle.pbf_blobs.proofs.Meanings.{outcome_means, length-spelled}
+use Rattle.pbf_blobs.proofs.Makes.{length-spelled}
+use Rattle.pbf_blobs.proofs.Meanings.{outcome_means}
 
 -- a triple has a length, and ends within the largest input
-triple-ahead : (at : ℕ) (triple : List ℕ) (blob : Blob) → IsPlainTriple at triple blob → (at + 4 ≤ blob.end) × (blob.end ≤ 536870912)
+triple-ahead : (at : ℕ) (triple : List ℕ) (blob : Blob) → IsTriple at triple blob → (at + 4 ≤ blob.end) × (blob.end ≤ 536870912)
 triple-ahead at triple blob t =
     let spelled = to_be_bytes w32 (length t.header) in
     let count : length triple ≡ 4 + length t.header + length t.body =
@@ -28,31 +29,31 @@ triple-there : (bytes : List ℕ) (at : ℕ) (blob : Blob) → AreBytes bytes �
 triple-there bytes at blob are e = (outcome_means at (drop at bytes) (left-are bytes at are) (Gives blob)).0 e
 
 -- and what follows it is left at the blob's end
-left-behind : (bytes : List ℕ) (at : ℕ) (blob : Blob) (triple after : List ℕ) → IsPlainTriple at triple blob → drop at bytes ≡ triple ++ after → drop blob.end bytes ≡ after
-left-behind bytes at blob triple after plain e =
-    ap (λ n. drop n bytes) plain.end ∙ sym (drop-drop (length triple) at bytes) ∙ ap (drop (length triple)) e ∙ drop_at triple after (length triple) refl
+left-behind : (bytes : List ℕ) (at : ℕ) (blob : Blob) (triple after : List ℕ) → IsTriple at triple blob → drop at bytes ≡ triple ++ after → drop blob.end bytes ≡ after
+left-behind bytes at blob triple after is e =
+    ap (λ n. drop n bytes) is.end ∙ sym (drop-drop (length triple) at bytes) ∙ ap (drop (length triple)) e ∙ drop_at triple after (length triple) refl
 
 -- ---- frames without fault are a concatenation of triples
 
-triples-from_frames : (bytes : List ℕ) (at : ℕ) (blobs : List Blob) → AreBytes bytes → Frames bytes at blobs Ends → ArePlainTriples at (drop at bytes) blobs
+triples-from_frames : (bytes : List ℕ) (at : ℕ) (blobs : List Blob) → AreBytes bytes → Frames bytes at blobs Ends → AreTriples at (drop at bytes) blobs
 triples-from_frames bytes at [] are frames = (outcome_means at (drop at bytes) (left-are bytes at are) Ends).0 frames
 triples-from_frames bytes at (blob ∷ blobs) are frames =
     let begins = triple-there bytes at blob are frames.0 in
     let others = triples-from_frames bytes blob.end blobs are frames.1 in (
       begins.triple,
       begins.after,
-      begins.plain,
+      begins.is_triple,
       begins.parts,
-      subst (λ (xs : List ℕ). ArePlainTriples blob.end xs blobs) (left-behind bytes at blob begins.triple begins.after begins.plain begins.parts) others,
+      subst (λ (xs : List ℕ). AreTriples blob.end xs blobs) (left-behind bytes at blob begins.triple begins.after begins.is_triple begins.parts) others,
     )
 
-frames-from_triples : (bytes : List ℕ) (at : ℕ) (blobs : List Blob) → AreBytes bytes → ArePlainTriples at (drop at bytes) blobs → Frames bytes at blobs Ends
+frames-from_triples : (bytes : List ℕ) (at : ℕ) (blobs : List Blob) → AreBytes bytes → AreTriples at (drop at bytes) blobs → Frames bytes at blobs Ends
 frames-from_triples bytes at [] are none = (outcome_means at (drop at bytes) (left-are bytes at are) Ends).1 none
 frames-from_triples bytes at (blob ∷ blobs) are t =
-    let here = (outcome_means at (drop at bytes) (left-are bytes at are) (Gives blob)).1 (record { triple = t.0; after = t.1; plain = t.2; parts = t.3 }) in
-    (here, frames-from_triples bytes blob.end blobs are (subst (λ (xs : List ℕ). ArePlainTriples blob.end xs blobs) (sym (left-behind bytes at blob t.0 t.1 t.2 t.3)) t.4))
+    let here = (outcome_means at (drop at bytes) (left-are bytes at are) (Gives blob)).1 (record { triple = t.0; after = t.1; is_triple = t.2; parts = t.3 }) in
+    (here, frames-from_triples bytes blob.end blobs are (subst (λ (xs : List ℕ). AreTriples blob.end xs blobs) (sym (left-behind bytes at blob t.0 t.1 t.2 t.3)) t.4))
 
-pub frames_are_triples : (bytes : List ℕ) → AreBytes bytes → (at : ℕ) (blobs : List Blob) → Frames bytes at blobs Ends ↔ ArePlainTriples at (drop at bytes) blobs
+pub frames_are_triples : (bytes : List ℕ) → AreBytes bytes → (at : ℕ) (blobs : List Blob) → Frames bytes at blobs Ends ↔ AreTriples at (drop at bytes) blobs
 frames_are_triples bytes are at blobs = (triples-from_frames bytes at blobs are, frames-from_triples bytes at blobs are)
 
 -- ---- one list of blobs and one outcome
@@ -87,10 +88,9 @@ framed_by : (most : ℕ) (bytes : List ℕ) (at : ℕ) (outcome : Outcome) → A
 framed_by most bytes at Ends are room e behind = last_one bytes at Ends tt e
 framed_by most bytes at (Gives blob) are room e behind =
     let begins = triple-there bytes at blob are e in
-    let ahead = triple-ahead at begins.triple blob begins.plain in
+    let ahead = triple-ahead at begins.triple blob begins.is_triple in
     one_more bytes at blob e (behind blob.end (omega (arith, ahead.0, ahead.1, room)))
-framed_by most bytes at (Cut place) are room e behind = last_one bytes at (Cut place) tt e
-framed_by most bytes at (NotPlain place) are room e behind = last_one bytes at (NotPlain place) tt e
+framed_by most bytes at (Fails fault) are room e behind = last_one bytes at (Fails fault) tt e
 
 framed_within : (most : ℕ) (bytes : List ℕ) (at : ℕ) → AreBytes bytes → 536870912 - at < most → IsFramedOneWay bytes at
 framed_within zero bytes at are room = absurd (omega arith)

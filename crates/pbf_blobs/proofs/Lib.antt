@@ -1,9 +1,11 @@
 pub mod Filling
+pub mod Walking
 pub mod HeaderParts
-pub mod ShortVarint
-pub mod Bodied
+pub mod MessageReads
 pub mod Starts
-pub mod PlainParts
+pub mod PlainFront
+pub mod Bodied
+pub mod Within
+pub mod Makes
 pub mod Meanings
 pub mod Framed
-pub mod Within

@@ -1,7 +1,7 @@
 -- The frames of a whole input: blobs one after the other, and what stands behind the last of them.
 use Rattle.std.specs.Prelude.{◌≡◌, ℕ, List, [], ◌∷◌, drop}
 use Rattle.pbf_blobs.specs.declared.blob.Blob.{Blob}
-use Rattle.pbf_blobs.specs.Next.{Outcome, Ends, Gives, Cut, NotPlain, next_of}
+use Rattle.pbf_blobs.specs.Next.{Outcome, Ends, Gives, Fails, next_of}
 
 -- the blobs from the place at on, one after the other, and then this outcome
 abbrev pub Frames : List ℕ → ℕ → List Blob → Outcome → Type 0
@@ -12,8 +12,7 @@ Frames bytes at (blob ∷ blobs) outcome = (next_of at (drop at bytes) ≡ Gives
 abbrev pub IsLast : Outcome → Type 0
 IsLast Ends = Unit {0}
 IsLast (Gives blob) = ⊥
-IsLast (Cut place) = Unit {0}
-IsLast (NotPlain place) = Unit {0}
+IsLast (Fails fault) = Unit {0}
 
 -- For each input and place there is one list of blobs and one last outcome.
 pub record IsFramedOneWay (bytes : List ℕ) (at : ℕ) : Type 0 where

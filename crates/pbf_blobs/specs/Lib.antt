@@ -1,6 +1,8 @@
 pub mod Faults
+pub mod Messages
 pub mod Triple
 pub mod Next
+pub mod Walk
 pub mod Input
 pub mod Answers
 pub mod Means

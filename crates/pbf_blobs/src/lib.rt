@@ -1,5 +1,5 @@
 //! The frames of a PBF file: a length, a BlobHeader, a Blob, and so on to the end (fileformat.proto).
-//! For now only plain ones are read: a header of type and datasize alone, a Blob of a raw payload alone.
+//! Header and Blob are messages of the wire format, read whole: fields in any order, repeated and unknown ones.
 #![tactic(auto)]
 
 mod blob;
@@ -8,6 +8,7 @@ mod input;
 mod law;
 mod next;
 mod parts;
+mod walk;
 
 pub use blob::Blob;
 pub use fault::PbfFault;

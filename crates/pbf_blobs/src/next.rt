@@ -1,17 +1,17 @@
 //! The next triple of the input, part by part. Each part is one function with one reading call.
 
-ghost use Rattle.std.specs.Prelude.{◌≡◌, ◌+◌, ◌-◌, ◌<◌, ◌≤◌, ◌++◌, List, ℕ, min, drop, length, true, false, Some, None, IsErr, IfOk, IfSome, MatchOption};
+ghost use Rattle.std.specs.Prelude.{◌≡◌, ◌+◌, ◌-◌, ◌<◌, ◌≤◌, ◌^◌, ◌++◌, List, ℕ, min, drop, length, true, false, Some, None, IfErr, IfOk, IfSome, MatchOption};
 ghost use Rattle.host_port.specs.Told.{moved};
 ghost use Rattle.pbf_blobs.specs.Input.{OfRest, OnlyMoved};
-ghost use Rattle.pbf_blobs.specs.Answers.{Answers, AnswersBlob, CountedRead, IfRead, bytes_over};
+ghost use Rattle.pbf_blobs.specs.Answers.{Answers, AnswersBlob, CountedRead, IfRead, bytes_over, is_read};
 ghost use Rattle.pbf_blobs.specs.Triple.{is_known};
-ghost use Rattle.pbf_blobs.specs.Next.{next_of, framed, bodied, IsFront};
+ghost use Rattle.pbf_blobs.specs.Next.{next_of, framed, sized, bodied, paid, payload_of, ShowsPayload};
 
 use crate::blob::{Blob, Head};
 use crate::fault::PbfFault;
 use crate::input::{read_behind, read_full};
-use crate::parts::{Header, is_known, payload_front, plain_header};
-use host_port::{Bytes, Host};
+use crate::parts::{is_known, payload_front, read_header, read_payload};
+use host_port::{Bytes, Host, Text};
 use std::alloc::Global;
 
 /// A header has fewer bytes than this.
@@ -23,13 +23,13 @@ const MOST_BLOB: u64 = 33_554_496;
 /// The most bytes that an input has.
 const MOST_INPUT: u64 = 536_870_912;
 
-/// The bytes of a plain Blob before its payload: the tag, and a varint of at most five bytes.
+/// So many bytes of a Blob are looked at before its payload: a tag, and a varint of five bytes.
 const MOST_FRONT: usize = 6;
 
 /// Reads the next blob of an input that stands at the place `at`, or finds its end.
 ///
-/// The answer is by what stands there: the end of the input before a length, a plain triple, or the first fault in
-/// the order of the parts (`docs/PBF.md`). It is the same whatever pieces the host reads in. After a fault of the
+/// The answer is by what stands there: the end of the input before a length, a triple, or the first fault in the
+/// order of the parts (`docs/PBF.md`). It is the same whatever pieces the host reads in. After a fault of the
 /// bytes the place in the input isn't told here.
 pub fn next_blob<H: Host>(alloc: Global, host: &mut H, at: u64) -> Result<Option<Blob>, PbfFault>
     requires { at ≤ 536870912 }
@@ -39,6 +39,7 @@ pub fn next_blob<H: Host>(alloc: Global, host: &mut H, at: u64) -> Result<Option
         IfOk result (λ found. MatchOption found (length input ≤ at) (λ blob. blob.end ≤ length input)) }
     ensures moved { IfOk result (λ found. H.told host.new ≡ moved (bytes_over at found) (H.told host.old)) }
     ensures ahead { IfOk result (λ found. IfSome found (λ blob. (at + 4 ≤ blob.end) × (blob.end ≤ 536870912))) }
+    ensures raw { IfOk result (λ found. IfSome found (λ blob. blob.raw_at + length blob.raw < 2 ^ 64)) }
     ensures others { OnlyMoved (H.told host.old) (H.told host.new) }
     ensures reads { CountedRead (H.read_faults host.old) (H.read_faults host.new) result }
     ensures puts { H.put_faults host.new ≡ H.put_faults host.old }
@@ -56,7 +57,10 @@ pub fn next_blob<H: Host>(alloc: Global, host: &mut H, at: u64) -> Result<Option
     }
     let length = u32::from_be_bytes(length);
     if length >= HEADER_LIMIT {
-        return Err(PbfFault::NotBuilt { at });
+        return Err(PbfFault::HeaderTooLong {
+            at,
+            len: u64::from(length),
+        });
     }
     match after_length(alloc, host, at, length as usize) {
         Ok(blob) => Ok(Some(blob)),
@@ -71,6 +75,7 @@ fn after_length<H: Host>(alloc: Global, host: &mut H, at: u64, len: usize) -> Re
     ensures bytes { OfRest (H.told host.old) (λ rest. AnswersBlob result (framed at len rest)) }
     ensures moved { IfOk result (λ blob. H.told host.new ≡ moved (blob.end - (at + 4)) (H.told host.old)) }
     ensures ahead { IfOk result (λ blob. (at + 4 ≤ blob.end) × (blob.end ≤ 536870912)) }
+    ensures raw { IfOk result (λ blob. blob.raw_at + length blob.raw < 2 ^ 64) }
     ensures others { OnlyMoved (H.told host.old) (H.told host.new) }
     ensures reads { CountedRead (H.read_faults host.old) (H.read_faults host.new) result }
     ensures puts { H.put_faults host.new ≡ H.put_faults host.old }
@@ -82,13 +87,12 @@ fn after_length<H: Host>(alloc: Global, host: &mut H, at: u64, len: usize) -> Re
     if header.len() < len {
         return Err(PbfFault::Truncated { at: at + 4 });
     }
-    let Some(Header { kind, size }) = plain_header(alloc, &header)? else {
-        return Err(PbfFault::NotBuilt { at });
+    let (kind, size) = match read_header(&header, at + 4) {
+        Ok(found) => found,
+        Err(fault) => return Err(fault),
     };
+    let kind = Text::from_str(alloc, kind)?;
     let body_at = at + 4 + len as u64;
-    if size > MOST_BLOB || body_at + size > MOST_INPUT {
-        return Err(PbfFault::NotBuilt { at });
-    }
     after_header(
         alloc,
         host,
@@ -101,13 +105,41 @@ fn after_length<H: Host>(alloc: Global, host: &mut H, at: u64, len: usize) -> Re
     )
 }
 
-/// Reads the Blob.
+/// Reads the Blob, where its size is within the limits.
 fn after_header<H: Host>(alloc: Global, host: &mut H, head: Head) -> Result<Blob, PbfFault>
+    requires body { head.body_at < 2 ^ 32 }
+    ensures bytes { OfRest (H.told host.old) (λ rest. AnswersBlob result (sized head rest)) }
+    ensures moved { IfOk result (λ blob. H.told host.new ≡ moved head.size (H.told host.old)) }
+    ensures end { IfOk result (λ blob. (blob.end ≡ head.body_at + head.size) × (blob.end ≤ 536870912)) }
+    ensures raw { IfOk result (λ blob. blob.raw_at + length blob.raw < 2 ^ 64) }
+    ensures others { OnlyMoved (H.told host.old) (H.told host.new) }
+    ensures reads { CountedRead (H.read_faults host.old) (H.read_faults host.new) result }
+    ensures puts { H.put_faults host.new ≡ H.put_faults host.old }
+    ensures says { H.say_faults host.new ≡ H.say_faults host.old }
+    ensures willing { H.willing host.old → H.willing host.new }
+    ensures cause { H.willing host.old → IfRead result ((H.told host.old).is_open ≡ Some false) }
+{
+    if head.size > MOST_BLOB {
+        return Err(PbfFault::BlobTooLong {
+            at: head.at,
+            len: head.size,
+        });
+    }
+    let end = head.body_at + head.size;
+    if end > MOST_INPUT {
+        return Err(PbfFault::TooLarge { bytes: end });
+    }
+    any_blob(alloc, host, head)
+}
+
+/// Reads the Blob.
+fn any_blob<H: Host>(alloc: Global, host: &mut H, head: Head) -> Result<Blob, PbfFault>
     requires size { head.size ≤ 33554496 }
     requires end { head.body_at + head.size ≤ 536870912 }
     ensures bytes { OfRest (H.told host.old) (λ rest. AnswersBlob result (bodied head rest)) }
     ensures moved { IfOk result (λ blob. H.told host.new ≡ moved head.size (H.told host.old)) }
     ensures end { IfOk result (λ blob. blob.end ≡ head.body_at + head.size) }
+    ensures raw { IfOk result (λ blob. blob.raw_at + length blob.raw < 2 ^ 64) }
     ensures others { OnlyMoved (H.told host.old) (H.told host.new) }
     ensures reads { CountedRead (H.read_faults host.old) (H.read_faults host.new) result }
     ensures puts { H.put_faults host.new ≡ H.put_faults host.old }
@@ -130,6 +162,7 @@ fn other_blob<H: Host>(alloc: Global, host: &mut H, head: Head) -> Result<Blob, 
     ensures bytes { OfRest (H.told host.old) (λ rest. AnswersBlob result (bodied head rest)) }
     ensures moved { IfOk result (λ blob. H.told host.new ≡ moved head.size (H.told host.old)) }
     ensures end { IfOk result (λ blob. blob.end ≡ head.body_at + head.size) }
+    ensures raw { IfOk result (λ blob. blob.raw_at + length blob.raw < 2 ^ 64) }
     ensures others { OnlyMoved (H.told host.old) (H.told host.new) }
     ensures reads { CountedRead (H.read_faults host.old) (H.read_faults host.new) result }
     ensures puts { H.put_faults host.new ≡ H.put_faults host.old }
@@ -161,6 +194,7 @@ fn known_blob<H: Host>(alloc: Global, host: &mut H, head: Head) -> Result<Blob, 
     ensures bytes { OfRest (H.told host.old) (λ rest. AnswersBlob result (bodied head rest)) }
     ensures moved { IfOk result (λ blob. H.told host.new ≡ moved head.size (H.told host.old)) }
     ensures end { IfOk result (λ blob. blob.end ≡ head.body_at + head.size) }
+    ensures raw { IfOk result (λ blob. blob.raw_at + length blob.raw < 2 ^ 64) }
     ensures others { OnlyMoved (H.told host.old) (H.told host.new) }
     ensures reads { CountedRead (H.read_faults host.old) (H.read_faults host.new) result }
     ensures puts { H.put_faults host.new ≡ H.put_faults host.old }
@@ -191,6 +225,7 @@ fn after_front<H: Host>(
     ensures bytes { OfRest (H.told host.old) (λ rest. AnswersBlob result (bodied head (front.now ++ rest))) }
     ensures moved { IfOk result (λ blob. H.told host.new ≡ moved (head.size - length front.now) (H.told host.old)) }
     ensures end { IfOk result (λ blob. blob.end ≡ head.body_at + head.size) }
+    ensures raw { IfOk result (λ blob. blob.raw_at + length blob.raw < 2 ^ 64) }
     ensures others { OnlyMoved (H.told host.old) (H.told host.new) }
     ensures reads { CountedRead (H.read_faults host.old) (H.read_faults host.new) result }
     ensures puts { H.put_faults host.new ≡ H.put_faults host.old }
@@ -201,11 +236,12 @@ fn after_front<H: Host>(
     let left = head.size as usize - front.len();
     match payload_front(front, left) {
         Some(start) => payload(alloc, host, head, start, left),
-        None => no_payload(alloc, host, head, left),
+        None => walked_blob(alloc, host, head, front, left),
     }
 }
 
-/// Reads the payload of a Blob of a known type, which begins with `start` and of which `left` bytes follow.
+/// Reads the payload of a Blob of a known type that is nothing more: it begins with `start`, and `left` bytes
+/// follow.
 fn payload<H: Host>(
     alloc: Global,
     host: &mut H,
@@ -217,10 +253,11 @@ fn payload<H: Host>(
     requires size_limit { head.size ≤ 33554496 }
     requires end { head.body_at + head.size ≤ 536870912 }
     requires known { is_known head.kind ≡ true }
-    ensures bytes { (front : List ℕ) → IsFront head left front (Some start.now) →
+    ensures bytes { (front : List ℕ) → length front + left ≡ head.size → ShowsPayload left front start.now →
         OfRest (H.told host.old) (λ rest. AnswersBlob result (bodied head (front ++ rest))) }
     ensures moved { IfOk result (λ blob. H.told host.new ≡ moved left (H.told host.old)) }
     ensures end { IfOk result (λ blob. blob.end ≡ head.body_at + head.size) }
+    ensures raw { IfOk result (λ blob. blob.raw_at + length blob.raw < 2 ^ 64) }
     ensures others { OnlyMoved (H.told host.old) (H.told host.new) }
     ensures reads { CountedRead (H.read_faults host.old) (H.read_faults host.new) result }
     ensures puts { H.put_faults host.new ≡ H.put_faults host.old }
@@ -244,18 +281,22 @@ fn payload<H: Host>(
     })
 }
 
-/// Reads over what is left of a Blob of a known type that isn't plain: the end of the input comes first.
-fn no_payload<H: Host>(
+/// Reads what is left of a Blob of a known type behind this front, and looks for its payload.
+fn walked_blob<H: Host>(
     alloc: Global,
     host: &mut H,
     head: Head,
+    front: &[u8],
     left: usize,
 ) -> Result<Blob, PbfFault>
-    requires size { left ≤ 33554496 }
+    requires size { length front.now + left ≡ head.size }
+    requires size_limit { head.size ≤ 33554496 }
+    requires end { head.body_at + head.size ≤ 536870912 }
     requires known { is_known head.kind ≡ true }
-    ensures bytes { (front : List ℕ) → IsFront head left front None →
-        OfRest (H.told host.old) (λ rest. AnswersBlob result (bodied head (front ++ rest))) }
-    ensures err { IsErr result }
+    ensures bytes { OfRest (H.told host.old) (λ rest. AnswersBlob result (bodied head (front.now ++ rest))) }
+    ensures moved { IfOk result (λ blob. H.told host.new ≡ moved left (H.told host.old)) }
+    ensures end { IfOk result (λ blob. blob.end ≡ head.body_at + head.size) }
+    ensures raw { IfOk result (λ blob. blob.raw_at + length blob.raw < 2 ^ 64) }
     ensures others { OnlyMoved (H.told host.old) (H.told host.new) }
     ensures reads { CountedRead (H.read_faults host.old) (H.read_faults host.new) result }
     ensures puts { H.put_faults host.new ≡ H.put_faults host.old }
@@ -263,9 +304,36 @@ fn no_payload<H: Host>(
     ensures willing { H.willing host.old → H.willing host.new }
     ensures cause { H.willing host.old → IfRead result ((H.told host.old).is_open ≡ Some false) }
 {
-    let rest = read_behind(alloc, host, &[], left)?;
-    if rest.len() < left {
+    let body = read_behind(alloc, host, front, left)?;
+    if body.len() < front.len() + left {
         return Err(PbfFault::Truncated { at: head.body_at });
     }
-    Err(PbfFault::NotBuilt { at: head.at })
+    blob_with_payload(alloc, head, &body)
+}
+
+/// The blob of a known type that has these bytes: its payload is copied out of them.
+fn blob_with_payload(alloc: Global, head: Head, body: &[u8]) -> Result<Blob, PbfFault>
+    requires place { head.body_at + length body.now ≤ 536870912 }
+    requires end { head.body_at + head.size ≤ 536870912 }
+    requires known { is_known head.kind ≡ true }
+    ensures bytes { AnswersBlob result (paid head (payload_of head.body_at body.now)) }
+    ensures end { IfOk result (λ blob. blob.end ≡ head.body_at + head.size) }
+    ensures raw { IfOk result (λ blob. blob.raw_at + length blob.raw < 2 ^ 64) }
+    ensures no_read { IfErr result (λ fault. is_read fault ≡ false) }
+{
+    match read_payload(body, head.body_at) {
+        Ok((raw_at, raw)) => {
+            let raw = Bytes::from_slice(alloc, raw)?;
+            Ok(Blob {
+                at: head.at,
+                kind: head.kind,
+                size: head.size,
+                known: true,
+                raw_at,
+                raw,
+                end: head.body_at + head.size,
+            })
+        }
+        Err(fault) => Err(fault),
+    }
 }

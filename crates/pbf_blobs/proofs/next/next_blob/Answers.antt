@@ -1,6 +1,7 @@
-use Rattle.std.proofs.Common.{◌≡◌, ◌∙◌, ◌+◌, length, drop, sym, subst, arith, rules}
+use Rattle.std.proofs.Common.{◌≡◌, ◌∙◌, ◌+◌, length, drop, sym, ap, subst, arith, rules}
 use Rattle.pbf_blobs.specs.Answers.{AnswersFault}
-use Rattle.pbf_blobs.specs.Next.{Outcome}
+use Rattle.pbf_blobs.specs.declared.fault.PbfFault.TheVariants as faults
+use Rattle.pbf_blobs.specs.Next.{Outcome, Fails}
 use Rattle.pbf_blobs.proofs.Filling.{place-moved}
 use Rattle.pbf_blobs.proofs.Starts.{count-read, next_of-ends, next_of-cut, next_of-long, next_of-framed}
 use Rattle.pbf_blobs.proofs.Within.{ends-at_end, gives-within}
@@ -27,7 +28,9 @@ returns-then-length-ge-HEADER_LIMIT-clause-bytes g c =
     let size : length buf ≡ 4 = search rules in
     let four : c.in_ok-count.count ≡ 4 = omega (arith, size, c.in_ok-count.ensures.most, c.if-count-lt4.false) in
     let filled = c.in_ok-count.ensures.bytes input c.args.at told at in
+    let same : c.from.result ≡ c.from_be_bytes-length.result = search rules in
     next_of-long c.args.at c.args.at c.in_ok-count.count c.from_be_bytes-length.result buf input size four filled c.from_be_bytes-length.ensures c.if-length-ge-HEADER_LIMIT.true
+    ∙ ap (λ len. Fails (faults.HeaderTooLong c.args.at len)) (sym same)
 
 pub returns-in-Ok-clause-bytes : goal.returns-in-Ok-clause-bytes
 returns-in-Ok-clause-bytes g c =
