@@ -1,0 +1,11 @@
+pub mod Walks
+pub mod Numbers
+pub mod Texts
+pub mod Groups
+pub mod Blocks
+pub mod Headers
+pub mod Answers
+pub mod Seen
+pub mod Lists
+pub mod Passes
+pub mod Endings

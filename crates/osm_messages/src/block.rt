@@ -1,0 +1,118 @@
+//! Data blocks.
+ghost use Rattle.std.specs.Prelude.{◌≡◌, ◌+◌, ◌<◌, ◌^◌, length, map, All, IfOk};
+ghost use Rattle.wire_read.specs.Fields.{seen, inner_length, content_of};
+ghost use Rattle.osm_messages.specs.Answers.{Answers, Becomes};
+ghost use Rattle.osm_messages.specs.Groups.{HasNumbers};
+ghost use Rattle.osm_messages.specs.Blocks.{with_table, with_scalar, block_step, block_in};
+ghost use Rattle.osm_messages.specs.Seen.{seen_object, seen_block};
+
+use crate::fault::MessageFault;
+use crate::group::read_group;
+use crate::object::RawObject;
+use crate::texts::read_texts;
+use std::alloc::Global;
+use wire_read::{Body, Field, Fields};
+
+// The numbers of a block's fields.
+const STRING_TABLE: u32 = 1;
+
+const GROUP: u32 = 2;
+
+const GRANULARITY: u32 = 17;
+
+const LAT_OFFSET: u32 = 19;
+
+const LON_OFFSET: u32 = 20;
+
+/// A data block, before anything is known of what its objects mean. A coordinate counts `granularity` times, and the
+/// offset is added to it; both are in units of 1e-9 degree.
+#[derive(Drop)]
+pub struct RawBlock<'a> {
+    /// The texts of the string table, where the block has one.
+    pub texts: Option<Vec<&'a [u8]>>,
+    /// The objects of all groups, in order.
+    pub objects: Vec<RawObject<'a>>,
+    pub granularity: i64,
+    pub lat_offset: i64,
+    pub lon_offset: i64,
+}
+
+impl<'a> RawBlock<'a> {
+    /// Sets the scalar that a field of this number holds.
+    fn set_scalar(&mut self, number: u32, n: u64)
+        ensures { seen_block self.new ≡ with_scalar (seen_block self.old) number n }
+    {
+        match number {
+            GRANULARITY => self.granularity = n.cast_signed(),
+            LAT_OFFSET => self.lat_offset = n.cast_signed(),
+            LON_OFFSET => self.lon_offset = n.cast_signed(),
+            _ => {}
+        }
+    }
+}
+
+/// Reads the string table of a field at `at`. Its first byte stands at `body_at`.
+fn add_table<'a>(
+    alloc: Global,
+    block: &mut RawBlock<'a>,
+    at: u64,
+    body_at: u64,
+    bytes: &'a [u8],
+) -> Result<(), MessageFault>
+    requires { body_at + length bytes.now < 2 ^ 64 }
+    ensures { Becomes result (seen_block block.new) (with_table (seen_block block.old) at body_at bytes.now) }
+{
+    if block.texts.is_some() {
+        return Err(MessageFault::Repeated {
+            at,
+            number: STRING_TABLE,
+        });
+    }
+    let texts = read_texts(alloc, bytes, body_at)?;
+    block.texts = Some(texts);
+    Ok(())
+}
+
+/// Reads what a field of a block says.
+fn add_field<'a>(
+    alloc: Global,
+    block: &mut RawBlock<'a>,
+    field: Field<'a>,
+) -> Result<(), MessageFault>
+    requires { field.body_at + inner_length (content_of field.body) < 2 ^ 64 }
+    ensures { Becomes result (seen_block block.new) (block_step (seen_block block.old) (seen field.entry)) }
+{
+    match field.body {
+        Body::Bytes(bytes) => match field.number {
+            STRING_TABLE => add_table(alloc, block, field.at, field.body_at, bytes),
+            GROUP => read_group(&mut block.objects, bytes, field.body_at),
+            _ => Ok(()),
+        },
+        Body::Varint(n) => {
+            block.set_scalar(field.number, n);
+            Ok(())
+        }
+        _ => Ok(()),
+    }
+}
+
+/// Reads a data block, the first byte of which stands at `at`. Its objects' numbers are looked through, so that
+/// reading them has no fault.
+pub fn read_block<'a>(alloc: Global, bytes: &'a [u8], at: u64) -> Result<RawBlock<'a>, MessageFault>
+    requires { at + length bytes.now < 2 ^ 64 }
+    ensures block { Answers seen_block result (block_in at bytes.now) }
+    ensures spelled { IfOk result (λ raw. All HasNumbers (map seen_object raw.objects.items)) }
+{
+    let mut block = RawBlock {
+        texts: None,
+        objects: Vec::new(alloc),
+        granularity: 100,
+        lat_offset: 0,
+        lon_offset: 0,
+    };
+    for field in Fields::new(bytes, at) {
+        let field = field?;
+        add_field(alloc, &mut block, field)?;
+    }
+    Ok(block)
+}

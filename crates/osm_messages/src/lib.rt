@@ -1,0 +1,27 @@
+//! What the payload of a blob spells, as messages inside messages, before anything is known of what they mean: the
+//! required features of a header block, and the string table, the objects and the scalars of a data block, each with
+//! its place. The objects' numbers are read in a second step, object by object, as unsigned numbers of 64 bits.
+//! Everything borrows from the bytes of the payload.
+#![tactic(auto)]
+
+mod block;
+mod fault;
+mod group;
+mod header;
+mod kind;
+mod lists;
+mod numbers;
+mod object;
+mod packed;
+mod texts;
+
+pub use block::{RawBlock, read_block};
+pub use fault::MessageFault;
+pub use header::read_features;
+pub use kind::ObjectKind;
+pub use lists::NumberLists;
+pub use numbers::read_numbers;
+pub use object::RawObject;
+
+#[cfg(test)]
+mod tests;
