@@ -1,0 +1,13 @@
+pub mod Results
+pub mod Exits
+pub mod Places
+pub mod Utf8
+pub mod Table
+pub mod OneTag
+pub mod Loops
+pub mod SumsSoFar
+pub mod KeysValues
+pub mod DenseLoop
+pub mod Lengths
+pub mod DenseChain
+pub mod BlockLoop

@@ -1,0 +1,15 @@
+use Rattle.std.proofs.Common.{rules, ◌≡◌, ℤ, pos, true, false, FitsSigned, to_z, of_z, w32, w64, ap, sym, ◌∙◌}
+use Rattle.std.proofs.lemmas.Int.{to_z-of_z}
+use Rattle.osm_objects.specs.Scales.{units_of, is_within}
+use Rattle.osm_objects.proofs.Places.{placed_at, lat_outside, lon_outside}
+use Rattle.osm_objects.proofs.scale.Scale.place.Goals as goal
+
+pub returns-in_default-clause-misplaced : goal.returns-in_default-clause-misplaced
+returns-in_default-clause-misplaced c = lat_outside c.args.self c.args.lat c.args.lon (search rules)
+
+pub returns-in_default-units-clause-misplaced : goal.returns-in_default-units-clause-misplaced
+returns-in_default-units-clause-misplaced c = lon_outside c.args.self c.args.lat c.args.lon (search rules) (search rules)
+
+pub returns-clause-placed : goal.returns-clause-placed
+returns-clause-placed c =
+    placed_at c.args.self c.args.lat c.args.lon _ _ (search rules) (search rules) (search rules) (search rules)

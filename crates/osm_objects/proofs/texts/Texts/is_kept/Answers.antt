@@ -1,0 +1,5 @@
+use Rattle.osm_objects.proofs.Table.{table_same}
+use Rattle.osm_objects.proofs.texts.Texts.is_kept.Goals as goal
+
+pub returns-clause-table : goal.returns-clause-table
+returns-clause-table c = table_same _ _ _ _ c.index_mut-entry.ensures.value c.is_kept.ensures.same

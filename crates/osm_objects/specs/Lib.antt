@@ -1,0 +1,15 @@
+pub mod Steps
+pub mod Parts
+pub mod Sums
+pub mod KeptKeys
+pub mod Tags
+pub mod Groups
+pub mod Scales
+pub mod Coordinates
+pub mod Nodes
+pub mod FirstGroups
+pub mod Ways
+pub mod Relations
+pub mod Objects
+pub mod Answers
+pub mod Seen

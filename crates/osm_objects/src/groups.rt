@@ -1,0 +1,64 @@
+//! The keys and values of dense messages.
+ghost use Rattle.std.specs.Prelude.{◌≡◌};
+ghost use Rattle.osm_objects.specs.Groups.{groups_of};
+ghost use Rattle.osm_objects.specs.FirstGroups.{group_read};
+ghost use Rattle.osm_objects.specs.Answers.{Answers, Admits};
+ghost use Rattle.osm_objects.specs.Seen.{table_of};
+
+use crate::fault::ObjectFault;
+use crate::texts::Texts;
+use osm_model::Tags;
+use std::alloc::Global;
+
+/// Whether there is a group for each of so many nodes of the dense message at `at`.
+pub fn check_groups(at: u64, count: usize, numbers: &[u64]) -> Result<(), ObjectFault>
+    ensures { Admits result (groups_of at count numbers.now) }
+{
+    if numbers.is_empty() {
+        return Ok(());
+    }
+    let mut groups: usize = 0;
+    let mut rest = numbers;
+    while let Some((key, behind)) = rest.split_first() {
+        if *key == 0 {
+            groups += 1;
+            rest = behind;
+        } else {
+            if behind.len() < 2 {
+                return Err(ObjectFault::Uneven { at });
+            }
+            rest = &behind[1..];
+        }
+    }
+    if groups == count {
+        Ok(())
+    } else {
+        Err(ObjectFault::Uneven { at })
+    }
+}
+
+/// The kept tags of the group that the numbers begin with, and the numbers behind it. Where there is no number it is
+/// an empty group.
+pub fn read_group<'n>(
+    alloc: Global,
+    texts: &mut Texts<'_>,
+    at: u64,
+    numbers: &'n [u64],
+) -> Result<(Tags, &'n [u64]), ObjectFault>
+    ensures tags { Answers (λ found. (found.0, found.1.now)) result (group_read (table_of texts.old) at numbers.now) }
+    ensures table { table_of texts.new ≡ table_of texts.old }
+{
+    let mut tags = Vec::new(alloc);
+    let mut rest = numbers;
+    while let Some((key, behind)) = rest.split_first() {
+        if *key == 0 {
+            return Ok((Tags::from_vec(tags), behind));
+        }
+        let Some((value, behind)) = behind.split_first() else {
+            return Ok((Tags::from_vec(tags), behind));
+        };
+        texts.add_tag(alloc, at, *key, *value, &mut tags)?;
+        rest = behind;
+    }
+    Ok((Tags::from_vec(tags), rest))
+}

@@ -1,0 +1,24 @@
+//! What the messages of a data block mean: nodes, ways and relations with the tags that are kept, or the first fault.
+//! A block comes as `osm_messages` reads it, and the objects are those of `osm_model`.
+#![tactic(auto)]
+
+mod dense;
+mod entry;
+mod fault;
+mod groups;
+mod kept;
+mod nodes;
+mod objects;
+mod parts;
+mod relations;
+mod scale;
+mod sums;
+mod tags;
+mod texts;
+mod ways;
+
+pub use fault::ObjectFault;
+pub use objects::{ObjectLists, add_objects};
+
+#[cfg(test)]
+mod tests;

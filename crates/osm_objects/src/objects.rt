@@ -1,0 +1,140 @@
+//! The objects of blocks.
+ghost use Rattle.std.specs.Prelude.{◌≡◌, [], map};
+ghost use Rattle.osm_messages.specs.Groups.{HasNumbers};
+ghost use Rattle.osm_messages.specs.Seen.{seen_object, seen_block};
+ghost use Rattle.osm_objects.specs.Objects.{Spelled, no_objects, behind, with_object, scale_of, objects_of};
+ghost use Rattle.osm_objects.specs.Answers.{Becomes};
+ghost use Rattle.osm_objects.specs.Seen.{table_of, seen_objects};
+
+use crate::dense::{Sums, add_dense};
+use crate::fault::ObjectFault;
+use crate::nodes::read_node;
+use crate::relations::read_relation;
+use crate::scale::Scale;
+use crate::texts::Texts;
+use crate::ways::read_way;
+use osm_messages::{NumberLists, ObjectKind, RawBlock, RawObject, read_numbers};
+use osm_model::{MemberKind, OsmNode, OsmRelation, OsmWay};
+use std::alloc::Global;
+
+/// The objects of blocks, each list in the order of the bytes.
+#[derive(Drop)]
+pub struct ObjectLists {
+    pub nodes: Vec<OsmNode>,
+    pub ways: Vec<OsmWay>,
+    pub relations: Vec<OsmRelation>,
+}
+
+impl ObjectLists {
+    /// Empty lists. No memory is taken.
+    pub fn new(alloc: Global) -> ObjectLists
+        ensures { seen_objects result ≡ no_objects }
+    {
+        ObjectLists {
+            nodes: Vec::new(alloc),
+            ways: Vec::new(alloc),
+            relations: Vec::new(alloc),
+        }
+    }
+}
+
+/// Room for the numbers of one object. It is kept from one object to the next.
+#[derive(Drop)]
+struct Room {
+    lists: NumberLists,
+    sums: Sums,
+    kinds: Vec<MemberKind>,
+}
+
+/// Puts what an object means behind the others.
+fn add_object(
+    alloc: Global,
+    texts: &mut Texts<'_>,
+    scale: Scale,
+    object: &RawObject<'_>,
+    room: &mut Room,
+    lists: &mut ObjectLists,
+) -> Result<(), ObjectFault>
+    requires { HasNumbers (seen_object object.now) }
+    ensures objects { Becomes result (seen_objects lists.new) (with_object (table_of texts.old) scale (seen_objects lists.old) (seen_object object.now)) }
+    ensures table { table_of texts.new ≡ table_of texts.old }
+{
+    // The numbers of the object are spelled, so that only memory can be wanting.
+    if read_numbers(object, &mut room.lists).is_err() {
+        return Err(ObjectFault::OutOfMemory);
+    }
+    let at = object.at;
+    match object.kind {
+        ObjectKind::Node => lists
+            .nodes
+            .push(read_node(alloc, texts, scale, at, &room.lists)?)?,
+        ObjectKind::Dense => add_dense(
+            alloc,
+            texts,
+            scale,
+            at,
+            &room.lists,
+            &mut room.sums,
+            &mut lists.nodes,
+        )?,
+        ObjectKind::Way => lists.ways.push(read_way(alloc, texts, at, &room.lists)?)?,
+        ObjectKind::Relation => lists.relations.push(read_relation(
+            alloc,
+            texts,
+            at,
+            &room.lists,
+            &mut room.sums.ids,
+            &mut room.kinds,
+        )?)?,
+    }
+    Ok(())
+}
+
+/// What one unit of a block's coordinates is.
+fn block_scale(block: &RawBlock<'_>) -> Scale
+    ensures { result ≡ scale_of (seen_block block.now) }
+{
+    Scale {
+        granularity: block.granularity,
+        lat_offset: block.lat_offset,
+        lon_offset: block.lon_offset,
+    }
+}
+
+/// Puts the objects of a block behind the others, each list in the order of the bytes. The block's first byte stands
+/// at `at`. After a fault the lists hold some of the objects.
+pub fn add_objects(
+    alloc: Global,
+    block: &RawBlock<'_>,
+    at: u64,
+    lists: &mut ObjectLists,
+) -> Result<(), ObjectFault>
+    requires { Spelled (seen_block block.now) }
+    ensures { Becomes result (seen_objects lists.new) (behind (seen_objects lists.old) (objects_of at (seen_block block.now))) }
+{
+    let Some(table) = &block.texts else {
+        return Err(ObjectFault::MissingField { at, number: 1 });
+    };
+    let mut texts = Texts::new(alloc, table)?;
+    let scale = block_scale(block);
+    let mut room = Room {
+        lists: NumberLists::new(alloc),
+        sums: Sums {
+            ids: Vec::new(alloc),
+            lats: Vec::new(alloc),
+            lons: Vec::new(alloc),
+        },
+        kinds: Vec::new(alloc),
+    };
+    for i in 0..block.objects.len() {
+        add_object(
+            alloc,
+            &mut texts,
+            scale,
+            &block.objects[i],
+            &mut room,
+            lists,
+        )?;
+    }
+    Ok(())
+}

@@ -1,0 +1,30 @@
+//! The tags of an object whose keys and values are two lists.
+ghost use Rattle.std.specs.Prelude.{◌≡◌, length};
+ghost use Rattle.std.specs.List.{zip};
+ghost use Rattle.osm_objects.specs.Tags.{tags_of};
+ghost use Rattle.osm_objects.specs.Answers.{Answers};
+ghost use Rattle.osm_objects.specs.Seen.{table_of};
+
+use crate::fault::ObjectFault;
+use crate::texts::Texts;
+use osm_model::Tags;
+use std::alloc::Global;
+
+/// The tags of these keys and values that are kept, of the object at `at`.
+pub fn read_tags(
+    alloc: Global,
+    texts: &mut Texts<'_>,
+    at: u64,
+    keys: &[u64],
+    values: &[u64],
+) -> Result<Tags, ObjectFault>
+    requires { length keys.now ≡ length values.now }
+    ensures tags { Answers (λ tags. tags) result (tags_of (table_of texts.old) at (zip keys.now values.now)) }
+    ensures table { table_of texts.new ≡ table_of texts.old }
+{
+    let mut tags = Vec::new(alloc);
+    for i in 0..keys.len() {
+        texts.add_tag(alloc, at, keys[i], values[i], &mut tags)?;
+    }
+    Ok(Tags::from_vec(tags))
+}
