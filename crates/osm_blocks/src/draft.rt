@@ -1,91 +1,84 @@
 //! An extract while it is read.
 
-ghost use Rattle.std.specs.Prelude.{◌≡◌, []};
-ghost use Rattle.osm_blocks.specs.Answers.{Becomes};
-ghost use Rattle.osm_blocks.specs.Drafts.{with_node, with_way};
+ghost use Rattle.std.specs.Prelude.{◌≡◌, ◌+◌, ◌<◌, ◌^◌, false, length, IfErr, OnOk};
+ghost use Rattle.osm_blocks.specs.Faults.{is_read};
 
-use crate::checks::{may_add_node, may_add_way};
-use crate::fault::BlockFault;
-use osm_model::{Extract, Nodes, OsmNode, OsmWay, Relations, Tags, Ways};
+use crate::counts::{count, first_past};
+use crate::fault::ExtractFault;
+use crate::features::check_header;
+use crate::lists::{add_block, extract_of, order_all};
+use osm_model::Extract;
+use osm_objects::ObjectLists;
+use pbf_blobs::Blob;
 use std::alloc::Global;
-use std::marker::Model;
 
-/// The nodes and ways read so far, in rising order of id. No count is past its limit.
-#[derive(Debug, Drop)]
+/// What has been read: whether a header block came, and all objects in the order of the bytes.
+#[derive(Drop)]
 pub struct Draft {
-    nodes: Vec<OsmNode>,
-    ways: Vec<OsmWay>,
-    refs: u64,
-    tags: u64,
-}
-
-impl Model for Draft {
-    ghost use Rattle.osm_blocks.specs.Objects.{Draft};
-
-    ghost Value = { Draft };
-
-    ghost use Rattle.osm_blocks.specs.DraftInside.{seen_draft, KeepsRules};
-
-    ghost view = { seen_draft };
-
-    ghost invariant = { KeepsRules };
+    headed: bool,
+    lists: ObjectLists,
 }
 
 impl Draft {
-    ghost use Rattle.osm_blocks.specs.Objects.{draft_of};
+    ghost use Rattle.osm_blocks.specs.Extracts.{empty_draft, with_blob};
+    ghost use Rattle.osm_blocks.specs.Steps.{seen, ArePlaced, Becomes, Finishes};
 
     /// Nothing yet. Takes no memory.
     pub fn new(alloc: Global) -> Draft
-        ensures { result ≡ record { nodes = []; ways = [] } }
+        ensures empty { seen result ≡ empty_draft }
+        ensures placed { ArePlaced result }
     {
         Draft {
-            nodes: Vec::new(alloc),
-            ways: Vec::new(alloc),
-            refs: 0,
-            tags: 0,
+            headed: false,
+            lists: ObjectLists::new(alloc),
         }
     }
 
-    /// Adds a node without tags: its id has to rise, and it has to lie at a place.
-    pub fn add_node(&mut self, alloc: Global, id: i64, lat: i64, lon: i64) -> Result<(), BlockFault>
-        ensures { Becomes result self.new (with_node self.old (record { id = id; lat = lat; lon = lon; tags = [] })) }
+    /// Adds what a blob says.
+    pub fn add_blob(&mut self, alloc: Global, blob: &Blob) -> Result<(), ExtractFault>
+        requires { blob.now.raw_at + length blob.now.raw < 2 ^ 64 }
+        ensures blob { Becomes result (seen self.new) (with_blob (seen self.old) blob.now) }
+        ensures placed { ArePlaced self.old → OnOk result (ArePlaced self.new) }
+        ensures no_read { IfErr result (λ fault. is_read fault ≡ false) }
     {
-        if !may_add_node(&self.nodes, id, lat, lon) {
-            return Err(BlockFault::NotPlain);
+        let kind = blob.kind.as_str();
+        if kind == "OSMHeader" {
+            return match check_header(alloc, blob.raw.as_slice(), blob.raw_at) {
+                Ok(()) => {
+                    self.headed = true;
+                    Ok(())
+                }
+                Err(fault) => Err(fault),
+            };
         }
-        self.nodes.push(OsmNode {
-            id,
-            lat: lat as i32,
-            lon: lon as i32,
-            tags: Tags::new(alloc),
-        })?;
-        Ok(())
+        if kind != "OSMData" {
+            return Ok(());
+        }
+        if !self.headed {
+            return Err(ExtractFault::NoHeader { at: blob.at });
+        }
+        match add_block(alloc, &mut self.lists, blob.raw.as_slice(), blob.raw_at) {
+            Ok(()) => Ok(()),
+            Err(fault) => Err(fault),
+        }
     }
 
-    /// Adds a way: its id has to rise, and each of its refs has to name a node of the draft.
-    pub fn add_way(&mut self, way: OsmWay) -> Result<(), BlockFault>
-        ensures { Becomes result self.new (with_way self.old way) }
+    /// The extract of all that was read from an input of `size` bytes. Takes no memory.
+    pub fn finish(self, size: u64) -> Result<Extract, ExtractFault>
+        requires { ArePlaced self }
+        ensures { Finishes size (seen self) result }
     {
-        if !may_add_way(&self.nodes, &self.ways, self.refs, self.tags, &way) {
-            return Err(BlockFault::NotPlain);
+        if !self.headed {
+            return Err(ExtractFault::NoHeader { at: size });
         }
-        let refs = way.refs.len() as u64;
-        let tags = way.tags.len() as u64;
-        self.ways.push(way)?;
-        self.refs += refs;
-        self.tags += tags;
-        Ok(())
-    }
-
-    /// The extract that was read. Takes no memory.
-    pub fn finish(self, alloc: Global) -> Extract
-        ensures objects { draft_of result ≡ self }
-        ensures none { result.relations ≡ [] }
-    {
-        Extract {
-            nodes: Nodes::from_vec(self.nodes),
-            ways: Ways::from_vec(self.ways),
-            relations: Relations::new(alloc),
+        let mut lists = self.lists;
+        if let Some((kind, id)) = order_all(&mut lists) {
+            return Err(ExtractFault::DuplicateId { kind, id });
         }
+        let counts = count(&lists);
+        if let Some((what, count)) = first_past(&counts) {
+            return Err(ExtractFault::TooMany { what, count });
+        }
+        Ok(extract_of(lists))
     }
 }

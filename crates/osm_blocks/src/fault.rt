@@ -1,31 +1,200 @@
-//! Why a block isn't read.
+//! Why an extract isn't read.
 
-ghost use Rattle.osm_blocks.specs.declared.fault.BlockFault.TheVariants.{OutOfMemory};
 ghost use Rattle.std.specs.Prelude.{◌≡◌};
+ghost use Rattle.osm_blocks.specs.Faults.{framed_as, spelled_as, meant_as};
 
-use std::alloc::{AllocError, AllocFailed};
+use osm_messages::MessageFault;
+use osm_model::{MemberKind, TagText};
+use osm_objects::ObjectFault;
+use pbf_blobs::PbfFault;
+use std::error::Error;
+use std::fmt;
+use wire_read::WireFault;
 
-/// Why a part of a block isn't read.
+/// What is counted over a whole extract.
 #[derive(Clone, Copy, Debug, PartialEq, Eq)]
-pub enum BlockFault {
-    /// It isn't plain.
-    NotPlain,
+pub enum Counted {
+    Nodes,
+    Ways,
+    Relations,
+    /// The refs of all ways.
+    Refs,
+    /// The members of all relations.
+    Members,
+    /// The kept tags of all objects.
+    Tags,
+}
+
+/// The first fault of an extract. Places, lengths and ends are in bytes, from the input's start. An object's place is
+/// that of its message's first byte, and a block's that of its payload's first byte.
+#[derive(Debug, PartialEq, Eq, Drop)]
+pub enum ExtractFault {
+    /// The host's count of read faults rose in the call.
+    Read,
+    /// The input ends inside the length, the header or the Blob that begins at the place `at`.
+    Truncated { at: u64 },
+    /// The triple at the place `at` begins with a length of 65,536 or more.
+    HeaderTooLong { at: u64, len: u64 },
+    /// The Blob of the triple at the place `at` has more than 33,554,496 bytes.
+    BlobTooLong { at: u64, len: u64 },
+    /// The Blob at the place `at` has a field 3 to 7, which holds a compressed payload.
+    Compressed { at: u64, field: u32 },
+    /// A message or a list of packed numbers isn't in the wire format.
+    Wire { fault: WireFault },
+    /// The Blob at the place `at` has no raw payload.
+    NoPayload { at: u64 },
+    /// A Blob would end at the place `bytes`, past 536,870,912.
+    TooLarge { bytes: u64 },
     /// There was no memory for it.
     OutOfMemory,
+    /// The BlobHeader, the block or the object at the place `at` has no field of that number.
+    MissingField { at: u64, number: u32 },
+    /// The type in the BlobHeader at the place `at` isn't UTF-8.
+    BadType { at: u64 },
+    /// An OSMData blob, whose triple stands at the place `at`, comes before any OSMHeader blob; or none comes before
+    /// the end of the input, `at`.
+    NoHeader { at: u64 },
+    /// The required feature whose field stands at the place `at` isn't read. The text is `?` where it isn't UTF-8.
+    Feature { at: u64, text: TagText },
+    /// In the object at the place `at`, a text's index isn't in the string table, or a kept text isn't UTF-8.
+    BadString { at: u64, index: u64 },
+    /// In the object at the place `at`, lists that go together don't.
+    Uneven { at: u64 },
+    /// Two objects of one kind have one id: the least such id of the first such kind.
+    DuplicateId { kind: MemberKind, id: i64 },
+    /// The node of this id is at no place on the earth.
+    BadCoordinate { id: i64 },
+    /// There are more of these than an extract may have.
+    TooMany { what: Counted, count: u64 },
+    /// A field that may come once comes again at the place `at`.
+    Repeated { at: u64, number: u32 },
+    /// In the object at the place `at`, a sum of differences isn't a signed number of 64 bits.
+    BadNumber { at: u64 },
 }
 
-impl From<AllocError> for BlockFault {
-    ghost from_gives = { λ _ made. made ≡ OutOfMemory };
-
-    fn from(_error: AllocError) -> BlockFault {
-        BlockFault::OutOfMemory
+/// What a fault of the framing is to a reader of extracts.
+pub fn framed(fault: PbfFault) -> ExtractFault
+    ensures { result ≡ framed_as fault }
+{
+    match fault {
+        PbfFault::Read => ExtractFault::Read,
+        PbfFault::Truncated { at } => ExtractFault::Truncated { at },
+        PbfFault::HeaderTooLong { at, len } => ExtractFault::HeaderTooLong { at, len },
+        PbfFault::BlobTooLong { at, len } => ExtractFault::BlobTooLong { at, len },
+        PbfFault::Compressed { at, field } => ExtractFault::Compressed { at, field },
+        PbfFault::Wire { fault } => ExtractFault::Wire { fault },
+        PbfFault::NoPayload { at } => ExtractFault::NoPayload { at },
+        PbfFault::TooLarge { bytes } => ExtractFault::TooLarge { bytes },
+        PbfFault::OutOfMemory => ExtractFault::OutOfMemory,
+        PbfFault::MissingField { at, number } => ExtractFault::MissingField { at, number },
+        PbfFault::BadType { at } => ExtractFault::BadType { at },
     }
 }
 
-impl<T: Drop> From<AllocFailed<T>> for BlockFault {
-    ghost from_gives = { λ _ made. made ≡ OutOfMemory };
-
-    fn from(_failed: AllocFailed<T>) -> BlockFault {
-        BlockFault::OutOfMemory
+/// What a fault of a block's messages is.
+pub fn spelled(fault: MessageFault) -> ExtractFault
+    ensures { result ≡ spelled_as fault }
+{
+    match fault {
+        MessageFault::Wire { fault } => ExtractFault::Wire { fault },
+        MessageFault::Repeated { at, number } => ExtractFault::Repeated { at, number },
+        MessageFault::OutOfMemory => ExtractFault::OutOfMemory,
     }
 }
+
+/// What a fault of a block's objects is.
+pub fn meant(fault: ObjectFault) -> ExtractFault
+    ensures { result ≡ meant_as fault }
+{
+    match fault {
+        ObjectFault::MissingField { at, number } => ExtractFault::MissingField { at, number },
+        ObjectFault::Uneven { at } => ExtractFault::Uneven { at },
+        ObjectFault::BadNumber { at } => ExtractFault::BadNumber { at },
+        ObjectFault::BadString { at, index } => ExtractFault::BadString { at, index },
+        ObjectFault::BadCoordinate { id } => ExtractFault::BadCoordinate { id },
+        ObjectFault::OutOfMemory => ExtractFault::OutOfMemory,
+    }
+}
+
+impl fmt::Display for Counted {
+    fn fmt<W: fmt::Write>(&self, f: &mut fmt::Formatter<W>) -> fmt::Result {
+        match self {
+            Counted::Nodes => write!(f, "nodes"),
+            Counted::Ways => write!(f, "ways"),
+            Counted::Relations => write!(f, "relations"),
+            Counted::Refs => write!(f, "refs"),
+            Counted::Members => write!(f, "members"),
+            Counted::Tags => write!(f, "tags"),
+        }
+    }
+}
+
+/// The word for objects of a kind.
+fn word(kind: MemberKind) -> &'static str {
+    match kind {
+        MemberKind::Node => "nodes",
+        MemberKind::Way => "ways",
+        MemberKind::Relation => "relations",
+    }
+}
+
+impl fmt::Display for ExtractFault {
+    fn fmt<W: fmt::Write>(&self, f: &mut fmt::Formatter<W>) -> fmt::Result {
+        match self {
+            ExtractFault::Read => write!(f, "the input can't be read"),
+            ExtractFault::Truncated { at } => write!(
+                f,
+                "the input ends inside what begins at {at}"
+            ),
+            ExtractFault::HeaderTooLong { at, len } => write!(
+                f,
+                "the header of the triple at {at} has {len} bytes"
+            ),
+            ExtractFault::BlobTooLong { at, len } => write!(
+                f,
+                "the blob of the triple at {at} has {len} bytes"
+            ),
+            ExtractFault::Compressed { at, field } => write!(
+                f,
+                "the blob at {at} is compressed, in field {field}"
+            ),
+            ExtractFault::Wire { fault } => write!(f, "{fault}"),
+            ExtractFault::NoPayload { at } => write!(f, "the blob at {at} has no payload"),
+            ExtractFault::TooLarge { bytes } => write!(f, "a blob would end at {bytes}"),
+            ExtractFault::OutOfMemory => write!(f, "out of memory"),
+            ExtractFault::MissingField { at, number } => write!(
+                f,
+                "what begins at {at} has no field {number}"
+            ),
+            ExtractFault::BadType { at } => write!(f, "the type in the header at {at} isn't UTF-8"),
+            ExtractFault::NoHeader { at } => write!(f, "no header block comes before {at}"),
+            ExtractFault::Feature { at, text } => write!(
+                f,
+                "the feature {} at {at} isn't read",
+                text.as_str()
+            ),
+            ExtractFault::BadString { at, index } => write!(
+                f,
+                "the object at {at} has no text {index}"
+            ),
+            ExtractFault::Uneven { at } => write!(f, "the lists of the object at {at} don't fit"),
+            ExtractFault::DuplicateId { kind, id } => write!(
+                f,
+                "two {} have the id {id}",
+                word(*kind)
+            ),
+            ExtractFault::BadCoordinate { id } => write!(f, "the node {id} is at no place"),
+            ExtractFault::TooMany { what, count } => write!(f, "there are {count} {what}"),
+            ExtractFault::Repeated { at, number } => write!(
+                f,
+                "the field {number} at {at} comes again"
+            ),
+            ExtractFault::BadNumber { at } => write!(
+                f,
+                "the numbers of the object at {at} are too large"
+            ),
+        }
+    }
+}
+
+impl Error for ExtractFault {}

@@ -1,21 +1,19 @@
-//! Reading an extract of OpenStreetMap from its blobs.
+//! Reading an extract of OpenStreetMap: the blobs of a PBF file one after the other, and what holds of all their
+//! objects together.
 #![tactic(auto)]
 
-mod checks;
-mod deltas;
+mod counts;
 mod draft;
 mod fault;
-mod groups;
-mod headers;
-mod lookup;
-mod nodes;
-mod parts;
+mod features;
+mod law;
+mod lists;
+mod order;
 mod read;
-mod strings;
-mod table;
-mod ways;
 
-pub use read::{ExtractFault, read_extract, reading_law};
+pub use fault::{Counted, ExtractFault};
+pub use law::reading_law;
+pub use read::read_extract;
 
 #[cfg(test)]
 mod tests;

@@ -1,8 +1,11 @@
-use crate::read::{ExtractFault, read_extract};
+use crate::counts::{Counts, first_past};
+use crate::fault::{Counted, ExtractFault};
+use crate::read::read_extract;
 use host_port::{Bytes, Host, MemHost, Text};
-use osm_model::{Extract, value};
+use osm_model::{Extract, MemberKind, TagText, value};
 use std::alloc::{AllocError, Global};
 use std::test::Fail;
+use wire_read::WireFault;
 
 // A header, then nodes 1 and 2 at latitudes 0 and 0 and longitudes 0 and 10,000, and residential way 10 with refs 1, 2.
 const TWO_NODES: [u8; 112] = [
@@ -17,6 +20,24 @@ const TWO_NODES: [u8; 112] = [
 
 // The place of the data triple.
 const DATA: usize = 35;
+
+// A triple of another type, whose Blob of four bytes would be compressed.
+const UNKNOWN: [u8; 21] = *b"\x00\x00\x00\x0d\x0a\x09Unknown00\x18\x04\x1a\x02\x78\x9c";
+
+// The same as a header block.
+const COMPRESSED: [u8; 21] = *b"\x00\x00\x00\x0d\x0a\x09OSMHeader\x18\x04\x1a\x02\x78\x9c";
+
+// Header blocks: of a feature that isn't read, of one that is no text, and of one and what is no field behind it.
+const HISTORICAL: [u8; 42] =
+    *b"\x00\x00\x00\x0d\x0a\x09OSMHeader\x18\x19\x0a\x17\x22\x15HistoricalInformation";
+
+const NO_TEXT: [u8; 22] = *b"\x00\x00\x00\x0d\x0a\x09OSMHeader\x18\x05\x0a\x03\x22\x01\xff";
+
+const BROKEN_HEADER: [u8; 23] =
+    *b"\x00\x00\x00\x0d\x0a\x09OSMHeader\x18\x06\x0a\x04\x22\x01\x78\x0b";
+
+// A data block without a string table, and with a group.
+const NO_TABLE: [u8; 19] = *b"\x00\x00\x00\x0b\x0a\x07OSMData\x18\x04\x0a\x02\x12\x00";
 
 // What the bytes give, read in pieces of this size; the call of the host that fails, if one does.
 fn read_bytes(
@@ -41,41 +62,88 @@ fn read_bytes(
     Ok(read_extract(alloc, &mut host))
 }
 
-fn joined(alloc: Global, parts: &[&[u8]]) -> Result<Vec<u8>, AllocError> {
+// A file of these parts.
+fn joined(alloc: Global, first: &[u8], second: &[u8], third: &[u8]) -> Result<Vec<u8>, AllocError> {
     let mut bytes = Vec::new(alloc);
-    for part in parts {
-        bytes.extend_from_slice(part)?;
+    bytes.extend_from_slice(first)?;
+    bytes.extend_from_slice(second)?;
+    bytes.extend_from_slice(third)?;
+    Ok(bytes)
+}
+
+// The first file with other bytes at two places.
+fn changed(alloc: Global, one: (usize, u8), other: (usize, u8)) -> Result<Vec<u8>, AllocError> {
+    let mut bytes = Vec::from_slice(alloc, TWO_NODES.as_slice())?;
+    if let Some(byte) = bytes.get_mut(one.0) {
+        *byte = one.1;
+    }
+    if let Some(byte) = bytes.get_mut(other.0) {
+        *byte = other.1;
     }
     Ok(bytes)
+}
+
+// The fault of a file of these parts.
+fn fault_of(
+    alloc: Global,
+    first: &[u8],
+    second: &[u8],
+    third: &[u8],
+) -> Result<Option<ExtractFault>, AllocError> {
+    let bytes = joined(alloc, first, second, third)?;
+    let found = read_bytes(alloc, &bytes, 65_536, None)?;
+    Ok(found.err())
+}
+
+// Whether these are nodes 1 and 2 at latitude 0 and these longitudes, and residential way 10 with these refs.
+fn shows(extract: &Extract, longitudes: (i32, i32), refs: [i64; 2]) -> bool {
+    let nodes = match extract.nodes.as_slice() {
+        [one, two] => {
+            one.id == 1
+                && one.lat == 0
+                && one.lon == longitudes.0
+                && two.id == 2
+                && two.lat == 0
+                && two.lon == longitudes.1
+        }
+        _ => false,
+    };
+    let ways = match extract.ways.as_slice() {
+        [way] => {
+            way.id == 10
+                && way.refs.as_slice() == refs.as_slice()
+                && value(&way.tags, "highway") == Some("residential")
+        }
+        _ => false,
+    };
+    nodes && ways && extract.relations.is_empty()
+}
+
+// Whether a file of these parts is that extract.
+fn reads(
+    alloc: Global,
+    first: &[u8],
+    second: &[u8],
+    third: &[u8],
+    longitudes: (i32, i32),
+    refs: [i64; 2],
+) -> Result<bool, AllocError> {
+    let bytes = joined(alloc, first, second, third)?;
+    match read_bytes(alloc, &bytes, 65_536, None)? {
+        Ok(extract) => Ok(shows(&extract, longitudes, refs)),
+        Err(_) => Ok(false),
+    }
 }
 
 #[test]
 fn two_nodes_and_a_way(rt: HostRuntime) -> Result<(), Fail> {
     for piece in [1, 2, 7, 65_536] {
-        let Ok(extract) = read_bytes(rt.alloc(), TWO_NODES.as_slice(), piece, None)? else {
+        let found = read_bytes(rt.alloc(), TWO_NODES.as_slice(), piece, None)?;
+        let Ok(extract) = found else {
             assert!(rt; false, "pieces of {piece}");
             return Ok(());
         };
-        assert_eq!(rt; extract.nodes.len(), 2);
-        assert_eq!(rt; extract.ways.len(), 1);
-        assert_eq!(rt; extract.relations.len(), 0);
-        for (node, (id, lat, lon)) in extract
-            .nodes
-            .as_slice()
-            .iter()
-            .zip([(1, 0, 0), (2, 0, 10_000)])
-        {
-            assert_eq!(rt; node.id, id);
-            assert_eq!(rt; node.lat, lat);
-            assert_eq!(rt; node.lon, lon);
-            assert_eq!(rt; node.tags.len(), 0);
-        }
-        for way in extract.ways.as_slice() {
-            assert_eq!(rt; way.id, 10);
-            assert_eq!(rt; way.refs.as_slice(), [1, 2].as_slice());
-            assert_eq!(rt; way.tags.len(), 1);
-            assert!(rt; value(&way.tags, "highway") == Some("residential"));
-        }
+        assert!(rt; shows(&extract, (0, 10_000), [1, 2]), "pieces of {piece}");
     }
     Ok(())
 }
@@ -83,7 +151,7 @@ fn two_nodes_and_a_way(rt: HostRuntime) -> Result<(), Fail> {
 // The fault of the bytes cut off behind `count` of them: the length, the header, the Blob of each triple.
 fn cut_at(count: usize) -> Option<ExtractFault> {
     match count {
-        0 => Some(ExtractFault::NotBuilt { at: 0 }),
+        0 => Some(ExtractFault::NoHeader { at: 0 }),
         1..=3 => Some(ExtractFault::Truncated { at: 0 }),
         4..=16 => Some(ExtractFault::Truncated { at: 4 }),
         17..=34 => Some(ExtractFault::Truncated { at: 17 }),
@@ -96,137 +164,184 @@ fn cut_at(count: usize) -> Option<ExtractFault> {
 
 #[test]
 fn cut_off(rt: HostRuntime) -> Result<(), Fail> {
-    for count in 0..TWO_NODES.len() {
+    for count in 0..=TWO_NODES.len() {
         let found = read_bytes(rt.alloc(), &TWO_NODES[..count], 65_536, None)?;
         assert_eq!(rt; found.err(), cut_at(count), "after {count} bytes");
     }
     Ok(())
 }
 
-// One byte is another: its place, the byte, and the triple that isn't plain by it.
 #[test]
-fn one_byte_else(rt: HostRuntime) -> Result<(), Fail> {
-    for (place, byte, at) in [
-        // the first feature is another; a header that isn't field 4
-        (34, 0x37, 0),
-        (19, 0x2a, 0),
-        // the strings: a field 2, bytes that aren't UTF-8
-        (54, 0x12, 35),
-        (67, 0xff, 35),
-        // ids that are the same, that fall
-        (85, 0x00, 35),
-        (85, 0x01, 35),
-        // one latitude for two nodes; field 8 comes twice, field 9 not at all
-        (88, 0x80, 35),
-        (90, 0x42, 35),
-        // field 7 in place of 8
-        (86, 0x3a, 35),
-        // a way's id in field 4; the key's list in field 4; refs that aren't packed
-        (100, 0x20, 35),
-        (102, 0x22, 35),
-        (108, 0x40, 35),
-        // another key, another value, an index past the table, the key spelled otherwise
-        (104, 0x02, 35),
-        (107, 0x01, 35),
-        (107, 0x03, 35),
-        (64, 0x7a, 35),
-        // a ref to node 3, to node 0
-        (111, 0x04, 35),
-        (110, 0x00, 35),
-        // a relation in place of the way
-        (98, 0x22, 35),
-        // another type of blob
-        (48, 0x62, 35),
-    ] {
-        let mut bytes = Vec::from_slice(rt.alloc(), TWO_NODES.as_slice())?;
-        if let Some(changed) = bytes.get_mut(place) {
-            *changed = byte;
-        }
-        let found = read_bytes(rt.alloc(), &bytes, 7, None)?;
-        assert_eq!(rt;
-            found.err(),
-            Some(ExtractFault::NotBuilt { at }),
-            "{byte} at {place}"
-        );
-    }
+fn other_forms(rt: HostRuntime) -> Result<(), Fail> {
+    let alloc = rt.alloc();
+    let header = &TWO_NODES[..DATA];
+    let data = &TWO_NODES[DATA..];
+    // two headers, before and behind; a blob of another type between
+    assert!(rt; reads(alloc, header, header, data, (0, 10_000), [1, 2])?);
+    assert!(rt; reads(alloc, header, data, header, (0, 10_000), [1, 2])?);
+    assert!(rt; reads(alloc, header, UNKNOWN.as_slice(), data, (0, 10_000), [1, 2])?);
+    // the way's group before that of its nodes
+    assert!(rt;
+        reads(
+            alloc,
+            &TWO_NODES[..78],
+            &TWO_NODES[96..],
+            &TWO_NODES[78..96],
+            (0, 10_000),
+            [1, 2]
+        )?
+    );
+    // ids 2 and 1; a ref to node 3, which isn't there
+    let falling = changed(alloc, (84, 0x04), (85, 0x01))?;
+    assert!(rt; reads(alloc, &falling, &[], &[], (10_000, 0), [1, 2])?);
+    let unknown = changed(alloc, (111, 0x04), (111, 0x04))?;
+    assert!(rt; reads(alloc, &unknown, &[], &[], (0, 10_000), [1, 3])?);
     Ok(())
 }
 
-// The fault of a file of these parts.
-fn fault_of(
-    alloc: Global,
-    first: &[u8],
-    second: &[u8],
-    third: &[u8],
-) -> Result<Option<ExtractFault>, AllocError> {
-    let mut bytes = Vec::new(alloc);
-    bytes.extend_from_slice(first)?;
-    bytes.extend_from_slice(second)?;
-    bytes.extend_from_slice(third)?;
-    let found = read_bytes(alloc, &bytes, 65_536, None)?;
-    Ok(found.err())
+#[test]
+fn headers(rt: HostRuntime) -> Result<(), Fail> {
+    let alloc = rt.alloc();
+    let data = &TWO_NODES[DATA..];
+    let none = &TWO_NODES[..0];
+    let no_header = |at| Some(ExtractFault::NoHeader { at });
+    assert_eq!(rt; fault_of(alloc, data, none, none)?, no_header(0));
+    assert_eq!(rt;
+        fault_of(alloc, UNKNOWN.as_slice(), none, none)?,
+        no_header(21)
+    );
+    assert_eq!(rt;
+        fault_of(alloc, UNKNOWN.as_slice(), data, &TWO_NODES)?,
+        no_header(21)
+    );
+    let compressed = Some(ExtractFault::Compressed { at: 17, field: 3 });
+    assert_eq!(rt;
+        fault_of(alloc, COMPRESSED.as_slice(), none, none)?,
+        compressed
+    );
+    Ok(())
 }
 
-// A block with a table and no group: the Blob has 28 bytes, the payload 26.
-fn no_group(alloc: Global) -> Result<Vec<u8>, AllocError> {
-    let mut bytes = Vec::new(alloc);
-    bytes.extend_from_slice(&TWO_NODES[35..49])?;
-    bytes.extend_from_slice([0x1c, 0x0a, 0x1a].as_slice())?;
+#[test]
+fn features(rt: HostRuntime) -> Result<(), Fail> {
+    let alloc = rt.alloc();
+    let none = &TWO_NODES[..0];
+    let text = TagText::from_str(alloc, "HistoricalInformation")?;
+    let feature = Some(ExtractFault::Feature { at: 19, text });
+    assert_eq!(rt;
+        fault_of(alloc, HISTORICAL.as_slice(), none, none)?,
+        feature
+    );
+    let text = TagText::from_str(alloc, "?")?;
+    let feature = Some(ExtractFault::Feature { at: 19, text });
+    assert_eq!(rt; fault_of(alloc, NO_TEXT.as_slice(), none, none)?, feature);
+    Ok(())
+}
+
+// A second data triple with the way alone: its Blob has 44 bytes, the payload 42.
+fn way_alone(alloc: Global) -> Result<Vec<u8>, AllocError> {
+    let mut bytes = Vec::from_slice(alloc, &TWO_NODES[DATA..49])?;
+    bytes.extend_from_slice([0x2c, 0x0a, 0x2a].as_slice())?;
     bytes.extend_from_slice(&TWO_NODES[52..78])?;
-    Ok(bytes)
-}
-
-// A block whose group has two dense messages: 32 bytes.
-fn two_dense(alloc: Global) -> Result<Vec<u8>, AllocError> {
-    let mut bytes = Vec::new(alloc);
-    bytes.extend_from_slice(&TWO_NODES[35..78])?;
-    bytes.extend_from_slice([0x12, 0x20].as_slice())?;
-    bytes.extend_from_slice(&TWO_NODES[80..96])?;
-    bytes.extend_from_slice(&TWO_NODES[80..96])?;
+    bytes.extend_from_slice(&TWO_NODES[96..])?;
     Ok(bytes)
 }
 
 #[test]
-fn triples(rt: HostRuntime) -> Result<(), Fail> {
+fn blocks_and_ends(rt: HostRuntime) -> Result<(), Fail> {
     let alloc = rt.alloc();
     let header = &TWO_NODES[..DATA];
     let data = &TWO_NODES[DATA..];
     let none = &TWO_NODES[..0];
-    let zero = &TWO_NODES[..1];
-    let at = |at| Some(ExtractFault::NotBuilt { at });
-    assert_eq!(rt; fault_of(alloc, header, none, none)?, None);
-    assert_eq!(rt; fault_of(alloc, header, data, none)?, None);
-    assert_eq!(rt; fault_of(alloc, none, data, none)?, at(0));
-    assert_eq!(rt; fault_of(alloc, header, data, header)?, at(112));
-    assert_eq!(rt; fault_of(alloc, header, header, none)?, at(35));
-    // node 1 comes again
-    assert_eq!(rt; fault_of(alloc, header, data, data)?, at(112));
-    let other = no_group(alloc)?;
-    assert_eq!(rt; fault_of(alloc, header, &other, none)?, at(35));
-    let other = two_dense(alloc)?;
-    assert_eq!(rt; fault_of(alloc, header, &other, none)?, at(35));
-    // what isn't plain comes before what is cut off
-    assert_eq!(rt; fault_of(alloc, header, header, zero)?, at(35));
-    let cut = Some(ExtractFault::Truncated { at: 112 });
-    assert_eq!(rt; fault_of(alloc, header, data, zero)?, cut);
+    // the value of the way's tag is no text of the table
+    let bytes = changed(alloc, (107, 0x03), (107, 0x03))?;
+    let bad = Some(ExtractFault::BadString { at: 100, index: 3 });
+    assert_eq!(rt; fault_of(alloc, &bytes, none, none)?, bad);
+    let missing = Some(ExtractFault::MissingField { at: 52, number: 1 });
+    assert_eq!(rt;
+        fault_of(alloc, header, NO_TABLE.as_slice(), none)?,
+        missing
+    );
+    // nodes 1 and 2 and way 10 again; the way alone again
+    let node = Some(ExtractFault::DuplicateId {
+        kind: MemberKind::Node,
+        id: 1,
+    });
+    assert_eq!(rt; fault_of(alloc, header, data, data)?, node);
+    let way = way_alone(alloc)?;
+    let twice = Some(ExtractFault::DuplicateId {
+        kind: MemberKind::Way,
+        id: 10,
+    });
+    assert_eq!(rt; fault_of(alloc, header, data, &way)?, twice);
     Ok(())
 }
 
-// Node 1 at a latitude and a longitude, as zigzag varints of five bytes: whether it lies at a place.
+// Two faults in one file: the one that is answered.
+#[test]
+fn the_first_fault(rt: HostRuntime) -> Result<(), Fail> {
+    let alloc = rt.alloc();
+    let none = &TWO_NODES[..0];
+    let zero = &TWO_NODES[..1];
+    // of a blob's objects, before the next frame
+    let bytes = changed(alloc, (107, 0x03), (107, 0x03))?;
+    let bad = Some(ExtractFault::BadString { at: 100, index: 3 });
+    assert_eq!(rt; fault_of(alloc, &bytes, zero, none)?, bad);
+    // of the frame, before that no header came; and that, before what the block has
+    let cut = Some(ExtractFault::Truncated { at: 15 });
+    assert_eq!(rt; fault_of(alloc, &TWO_NODES[DATA..111], none, none)?, cut);
+    let no_header = Some(ExtractFault::NoHeader { at: 0 });
+    let (front, back) = (&TWO_NODES[DATA..97], &TWO_NODES[98..]);
+    assert_eq!(rt; fault_of(alloc, front, [0x0f].as_slice(), back)?, no_header);
+    // one latitude for two nodes, and behind it a group that ends past the block
+    let uneven = changed(alloc, (88, 0x80), (88, 0x80))?;
+    let fault = Some(ExtractFault::Uneven { at: 82 });
+    assert_eq!(rt; fault_of(alloc, &uneven, none, none)?, fault);
+    let both = changed(alloc, (88, 0x80), (97, 0x0f))?;
+    let short = Some(ExtractFault::Wire {
+        fault: WireFault::Short { at: 96 },
+    });
+    assert_eq!(rt; fault_of(alloc, &both, none, none)?, short);
+    Ok(())
+}
+
+// What is no field comes before a feature that isn't read, and the fault of a block before the end's.
+#[test]
+fn the_first_fault_of_a_header(rt: HostRuntime) -> Result<(), Fail> {
+    let alloc = rt.alloc();
+    let none = &TWO_NODES[..0];
+    let wire = WireFault::BadWire { at: 22, kind: 3 };
+    let broken = Some(ExtractFault::Wire { fault: wire });
+    assert_eq!(rt;
+        fault_of(alloc, BROKEN_HEADER.as_slice(), none, none)?,
+        broken
+    );
+    let wire = WireFault::BadWire { at: 246, kind: 3 };
+    let broken = Some(ExtractFault::Wire { fault: wire });
+    let twice = joined(alloc, &TWO_NODES, &TWO_NODES, &BROKEN_HEADER)?;
+    assert_eq!(rt; fault_of(alloc, &twice, none, none)?, broken);
+    Ok(())
+}
+
+// Node 7 at this latitude and longitude, as zigzag varints of five bytes.
+fn node_at(alloc: Global, lat: [u8; 5], lon: [u8; 5]) -> Result<Option<ExtractFault>, AllocError> {
+    let mut bytes = Vec::from_slice(alloc, &TWO_NODES[..49])?;
+    bytes.extend_from_slice([0x31, 0x0a, 0x2f].as_slice())?;
+    bytes.extend_from_slice(&TWO_NODES[52..78])?;
+    bytes.extend_from_slice([0x12, 0x13, 0x12, 0x11, 0x0a, 0x01, 0x0e, 0x42, 0x05].as_slice())?;
+    bytes.extend_from_slice(lat.as_slice())?;
+    bytes.extend_from_slice([0x4a, 0x05].as_slice())?;
+    bytes.extend_from_slice(lon.as_slice())?;
+    fault_of(alloc, &bytes, &[], &[])
+}
+
 #[test]
 fn places(rt: HostRuntime) -> Result<(), Fail> {
-    let alloc = rt.alloc();
     for (lat, lon, is_place) in [
         // 900,000,000 and 1,800,000,000
         (
             [0x80, 0xa4, 0xa7, 0xda, 0x06],
             [0x80, 0xc8, 0xce, 0xb4, 0x0d],
-            true,
-        ),
-        // -900,000,000 and -1,800,000,000
-        (
-            [0xff, 0xa3, 0xa7, 0xda, 0x06],
-            [0xff, 0xc7, 0xce, 0xb4, 0x0d],
             true,
         ),
         // 900,000,001 and 1,800,000,000
@@ -235,75 +350,63 @@ fn places(rt: HostRuntime) -> Result<(), Fail> {
             [0x80, 0xc8, 0xce, 0xb4, 0x0d],
             false,
         ),
-        // -900,000,001 and 0
+        // -900,000,000 and -1,800,000,001
         (
-            [0x81, 0xa4, 0xa7, 0xda, 0x06],
-            [0x80, 0x80, 0x80, 0x80, 0x00],
-            false,
-        ),
-        // 900,000,000 and 1,800,000,001
-        (
-            [0x80, 0xa4, 0xa7, 0xda, 0x06],
-            [0x82, 0xc8, 0xce, 0xb4, 0x0d],
-            false,
-        ),
-        // 900,000,000 and -1,800,000,001
-        (
-            [0x80, 0xa4, 0xa7, 0xda, 0x06],
+            [0xff, 0xa3, 0xa7, 0xda, 0x06],
             [0x81, 0xc8, 0xce, 0xb4, 0x0d],
             false,
         ),
     ] {
-        let bytes = joined(
-            alloc,
-            &[
-                &TWO_NODES[..49],
-                &[0x31, 0x0a, 0x2f],
-                &TWO_NODES[52..78],
-                &[0x12, 0x13, 0x12, 0x11, 0x0a, 0x01, 0x02, 0x42, 0x05],
-                lat.as_slice(),
-                &[0x4a, 0x05],
-                lon.as_slice(),
-            ],
-        )?;
-        let found = read_bytes(alloc, &bytes, 65_536, None)?;
         let fault = if is_place {
             None
         } else {
-            Some(ExtractFault::NotBuilt { at: 35 })
+            Some(ExtractFault::BadCoordinate { id: 7 })
         };
-        assert_eq!(rt; found.err(), fault, "of {lat:?} and {lon:?}");
+        assert_eq!(rt;
+            node_at(rt.alloc(), lat, lon)?,
+            fault,
+            "of {lat:?} and {lon:?}"
+        );
     }
     Ok(())
 }
 
-// The calls of the host are numbered from 0, the opening of the input.
+// The counts at their limits, with so many more of each.
+fn past_by(more: [u64; 6]) -> Option<(Counted, u64)> {
+    first_past(&Counts {
+        nodes: 10_000_000 + more[0].min(9),
+        ways: 2_000_000 + more[1].min(9),
+        relations: 500_000 + more[2].min(9),
+        refs: 20_000_000 + more[3].min(9),
+        members: 20_000_000 + more[4].min(9),
+        tags: 20_000_000 + more[5].min(9),
+    })
+}
+
+#[test]
+fn limits(rt: HostRuntime) {
+    for (more, past) in [
+        ([0, 0, 0, 0, 0, 0], None),
+        ([1, 1, 1, 1, 1, 1], Some((Counted::Nodes, 10_000_001))),
+        ([0, 1, 1, 1, 1, 1], Some((Counted::Ways, 2_000_001))),
+        ([0, 0, 2, 1, 1, 1], Some((Counted::Relations, 500_002))),
+        ([0, 0, 0, 1, 1, 1], Some((Counted::Refs, 20_000_001))),
+        ([0, 0, 0, 0, 1, 1], Some((Counted::Members, 20_000_001))),
+        ([0, 0, 0, 0, 0, 1], Some((Counted::Tags, 20_000_001))),
+    ] {
+        assert!(rt; past_by(more) == past, "{more:?}");
+    }
+}
+
+// The calls of the host are numbered from 0, the opening of the input. The last one finds the end.
 #[test]
 fn reads_that_fail(rt: HostRuntime) -> Result<(), Fail> {
-    for number in [1, 2, 3, 8] {
+    for number in 1..=9 {
         let found = read_bytes(rt.alloc(), TWO_NODES.as_slice(), 65_536, Some(number))?;
         assert_eq!(rt; found.err(), Some(ExtractFault::Read), "call {number}");
     }
-    Ok(())
-}
-
-#[test]
-fn texts(rt: HostRuntime) -> Result<(), Fail> {
-    for (fault, text) in [
-        (ExtractFault::Read, "the input can't be read"),
-        (
-            ExtractFault::Truncated { at: 3 },
-            "the input ends inside what begins at 3",
-        ),
-        (ExtractFault::OutOfMemory, "out of memory"),
-        (
-            ExtractFault::NotBuilt { at: 4 },
-            "the block at 4 isn't plain",
-        ),
-    ] {
-        let said = fault.to_string(rt.alloc())?;
-        assert_eq!(rt; said.as_str(), text);
-    }
+    let found = read_bytes(rt.alloc(), TWO_NODES.as_slice(), 65_536, Some(10))?;
+    assert_eq!(rt; found.err(), None);
     Ok(())
 }
 
@@ -317,7 +420,7 @@ fn fault_with(alloc: Global) -> Option<ExtractFault> {
 }
 
 // It is read twice. Where one allocation fails, the reading that it falls into says so, and the other gives the
-// extract. `rt try --test --fail-alloc N` makes the Nth allocation of each test fail.
+// extract. `rt try --test --fail-alloc N` makes the Nth fail; this test is the first to allocate.
 #[test]
 fn allocation_that_fails(rt: HostRuntime) {
     let (first, second) = (fault_with(rt.alloc()), fault_with(rt.alloc()));
@@ -327,4 +430,30 @@ fn allocation_that_fails(rt: HostRuntime) {
         matches!(fault, None | Some(ExtractFault::OutOfMemory)),
         "{fault:?}"
     );
+}
+
+fn says(alloc: Global, fault: ExtractFault, text: &str) -> Result<bool, AllocError> {
+    let said = fault.to_string(alloc)?;
+    Ok(said.as_str() == text)
+}
+
+#[test]
+fn texts(rt: HostRuntime) -> Result<(), Fail> {
+    let alloc = rt.alloc();
+    let twice = ExtractFault::DuplicateId {
+        kind: MemberKind::Way,
+        id: -3,
+    };
+    assert!(rt; says(alloc, twice, "two ways have the id -3")?);
+    let many = ExtractFault::TooMany {
+        what: Counted::Refs,
+        count: 7,
+    };
+    assert!(rt; says(alloc, many, "there are 7 refs")?);
+    let text = TagText::from_str(alloc, "A")?;
+    let feature = ExtractFault::Feature { at: 5, text };
+    assert!(rt; says(alloc, feature, "the feature A at 5 isn't read")?);
+    let none = ExtractFault::NoHeader { at: 4 };
+    assert!(rt; says(alloc, none, "no header block comes before 4")?);
+    Ok(())
 }

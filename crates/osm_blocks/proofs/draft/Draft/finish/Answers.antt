@@ -1,24 +1,43 @@
-use Rattle.std.proofs.Common.{sym, arith, length, subst, [], All}
+use Rattle.std.proofs.Common.{◌≡◌, Bool, true, false, not, None, sym, ap, ◌∙◌, subst, inr, refl}
+use Rattle.std.proofs.lemmas.List.Sorted.{All-permutation}
 use Rattle.osm_model.specs.OsmNode.{IsPlaced}
-use Rattle.osm_model.specs.Extract.{NodesRise, WaysRise, refs_in, tags_in}
-use Rattle.osm_blocks.proofs.Growth.{limits_true}
+use Rattle.osm_objects.specs.Seen.{seen_objects}
+use Rattle.osm_blocks.specs.Counts.{counts_of, first_past}
+use Rattle.osm_blocks.specs.Extracts.{IsFinished}
+use Rattle.osm_blocks.specs.Steps.{AreInOrder, seen}
+use Rattle.osm_blocks.proofs.Limits.{counts_same, in_order_distinct}
 use Rattle.osm_blocks.proofs.draft.Draft.finish.Goals as goal
 
-pub invariant_of-result : goal.invariant_of-result
-invariant_of-result c =
-    let k = c.self.invariant in
-    let n = sym c.from_vec.ensures in
-    let w = sym c.from_vec-2.ensures in
-    let few = limits_true (length c.self.inside.nodes.items) (length c.self.inside.ways.items) (refs_in c.self.inside.ways.items) (tags_in c.self.inside.nodes.items c.self.inside.ways.items []) k.limits in
-    record {
-      nodes_rise = subst NodesRise n k.nodes_rise;
-      ways_rise = subst WaysRise w k.ways_rise;
-      relations_rise = rw c.new.ensures (λ i j d lt within. absurd (omega arith));
-      placed = subst (All IsPlaced) n k.placed;
-      node_limit = rw c.from_vec.ensures few.nodes_few;
-      way_limit = rw c.from_vec-2.ensures few.ways_few;
-      relation_limit = rw c.new.ensures (omega arith);
-      ref_limit = rw c.from_vec-2.ensures few.refs_few;
-      member_limit = rw c.new.ensures (omega arith);
-      tag_limit = rw (c.from_vec.ensures, c.from_vec-2.ensures, c.new.ensures) few.tags_few;
-    }
+headed : (b : Bool) → not b ≡ false → b ≡ true
+headed true e = refl
+headed false e = absurd cc
+
+pub returns-in-Some-first_past : goal.returns-in-Some-first_past
+returns-in-Some-first_past c =
+    let old = seen_objects c.args.self.lists in
+    let new = seen_objects c.order_all.new.lists in
+    let order : AreInOrder old new = c.in_default.ensures in
+    inr (inr (record {
+      headed = headed c.args.self.headed c.if-not-self.false;
+      distinct = in_order_distinct old new order;
+      what = c.in-Some-first_past.what;
+      count = c.in-Some-first_past.count;
+      past = ap first_past (sym (counts_same old new order)) ∙ ap first_past (sym c.count-counts.ensures) ∙ sym c.first_past.ensures ∙ c.in-Some-first_past.is;
+      is = refl;
+    }))
+
+pub extract_of-requires-clause-placed : goal.extract_of-requires-clause-placed
+extract_of-requires-clause-placed c =
+    let order : AreInOrder (seen_objects c.args.self.lists) (seen_objects c.order_all.new.lists) = c.in_default.ensures in
+    All-permutation IsPlaced c.args.self.lists.nodes.items c.order_all.new.lists.nodes.items order.nodes.same c.requires
+
+pub returns : goal.returns
+returns c =
+    let old = seen_objects c.args.self.lists in
+    let new = seen_objects c.order_all.new.lists in
+    let order : AreInOrder old new = c.in_default.ensures in
+    let within : first_past (counts_of old) ≡ None =
+    ap first_past (sym (counts_same old new order)) ∙ ap first_past (sym c.count-counts.ensures) ∙ sym c.first_past.ensures ∙ c.in_default-first_past.is in
+    let finished : IsFinished (seen c.args.self) new =
+    record { headed = headed c.args.self.headed c.if-not-self.false; nodes = order.nodes; ways = order.ways; relations = order.relations; within = within } in
+    subst (IsFinished (seen c.args.self)) (sym c.extract_of.ensures) finished

@@ -1,0 +1,11 @@
+-- The refs and the tags of the ways so far are counted.
+use Rattle.std.proofs.Common.{◌≡◌, take}
+use Rattle.osm_model.specs.Extract.{refs_in, tags_of_ways}
+use Rattle.osm_blocks.specs.Counts.{as_u64}
+use Rattle.osm_blocks.proofs.counts.count_ways.Given as goal
+
+abbrev pub invariant-loop-way : goal.invariant-loop-way
+invariant-loop-way l = record {
+  refs : l.refs ≡ as_u64 (refs_in (take l.way-index l.ways));
+  tags : l.tags ≡ as_u64 (tags_of_ways (take l.way-index l.ways));
+}

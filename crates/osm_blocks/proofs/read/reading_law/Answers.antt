@@ -1,5 +1,0 @@
-use Rattle.osm_blocks.proofs.OneReading.{is_read_one_way}
-use Rattle.osm_blocks.proofs.read.reading_law.Goals as goal
-
-pub returns : goal.returns
-returns c = λ bytes are. is_read_one_way bytes (λ at. c.framing_law.ensures.one_way bytes are at)

@@ -1,0 +1,32 @@
+-- How many objects, refs, members and tags there are, and how many there may be.
+use Rattle.std.specs.Prelude.{ℕ, ◌-◌, ◌^◌, min, nat_lt, List, [], ◌∷◌, length, Option}
+use Rattle.std.specs.List.{find}
+use Rattle.std.specs.Option.{option_map}
+use Rattle.osm_model.specs.Extract.{refs_in, members_in, tags_in}
+use Rattle.osm_objects.specs.Objects.{Objects}
+use Rattle.osm_blocks.specs.declared.fault.Counted.{Counted}
+use Rattle.osm_blocks.specs.declared.fault.Counted.TheVariants as counted
+
+-- so many of these were found, and there may be so many
+pub record Count : Type 0 where
+  pub what : Counted
+  pub found : ℕ
+  pub most : ℕ
+
+-- a count as a number of 64 bits: the greatest one where there are more
+abbrev pub as_u64 : ℕ → ℕ
+as_u64 n = min (2 ^ 64 - 1) n
+
+abbrev pub counts_of : Objects → List Count
+counts_of objects =
+    record { what = counted.Nodes; found = as_u64 (length objects.nodes); most = 10_000_000 }
+    ∷ record { what = counted.Ways; found = as_u64 (length objects.ways); most = 2_000_000 }
+    ∷ record { what = counted.Relations; found = as_u64 (length objects.relations); most = 500_000 }
+    ∷ record { what = counted.Refs; found = as_u64 (refs_in objects.ways); most = 20_000_000 }
+    ∷ record { what = counted.Members; found = as_u64 (members_in objects.relations); most = 20_000_000 }
+    ∷ record { what = counted.Tags; found = as_u64 (tags_in objects.nodes objects.ways objects.relations); most = 20_000_000 }
+    ∷ []
+
+-- the first count that is past its limit: of what, and how many were found
+abbrev pub first_past : List Count → Option (Counted × ℕ)
+first_past counts = option_map (λ (count : Count). (count.what, count.found)) (find (λ (count : Count). nat_lt count.most count.found) counts)
