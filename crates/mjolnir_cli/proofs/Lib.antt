@@ -1,4 +1,6 @@
+pub mod Causes
 pub mod SoFar
+pub mod Ordered
 pub mod Readings
 pub mod SameRoads
 pub mod OneAnswer

@@ -1,24 +1,29 @@
 -- An input has no two answers, no two refusals, and no answer beside a refusal.
-use Rattle.std.proofs.Common.{◌≡◌, ◌⊎◌, inl, inr, ℕ, List, [], ◌∷◌, Option, Some, Result, Ok, Err, refl, sym, ap, ◌∙◌}
+use Rattle.std.proofs.Common.{◌≡◌, ℕ, ℤ, List, [], ◌∷◌, Option, Some, Result, Ok, Err, refl, sym, ap, ◌∙◌}
 use Rattle.pbf_blobs.specs.declared.blob.Blob.{Blob}
-use Rattle.pbf_blobs.specs.Next.{Outcome, Ends, Gives, Cut, NotPlain}
+use Rattle.pbf_blobs.specs.declared.fault.PbfFault.{PbfFault}
+use Rattle.pbf_blobs.specs.Next.{Outcome, Gives, Fails}
 use Rattle.pbf_blobs.specs.Frames.{Frames}
+use Rattle.osm_model.specs.declared.relations.MemberKind.{MemberKind}
 use Rattle.osm_model.specs.declared.extract.Extract.{Extract}
-use Rattle.osm_blocks.specs.Objects.{Draft, draft_of}
-use Rattle.osm_blocks.specs.Extracts.{Reading, Extracted, CutAt, OtherAt, Reads, IsReadOneWay}
+use Rattle.osm_blocks.specs.declared.fault.ExtractFault.{ExtractFault}
+use Rattle.osm_blocks.specs.Faults.{framed_as}
+use Rattle.osm_blocks.specs.Extracts.{Refuses, Refused, IsReadOneWay, lists_of}
 use Rattle.road_pieces.specs.declared.faults.CutFault.{CutFault}
 use Rattle.road_pieces.specs.declared.faults.CutFault.TheVariants as cut_faults
 use Rattle.road_pieces.specs.Rows.{junction_rows, piece_rows, refusal}
 use Rattle.mjolnir_cli.specs.declared.answer.Answer.{Answer}
 use Rattle.mjolnir_cli.specs.declared.failure.Failure.{Failure}
-use Rattle.mjolnir_cli.specs.declared.failure.Failure.TheVariants.{Words, Read, Put, Truncated, NotBuilt, Pieces, EdgeTooLong, OutOfMemory}
+use Rattle.mjolnir_cli.specs.declared.failure.Failure.TheVariants as failures
+use Rattle.mjolnir_cli.specs.declared.failure.Failure.TheVariants.{Words, Read, Put, NotBuilt, Pieces, EdgeTooLong, OutOfMemory}
 use Rattle.mjolnir_cli.specs.Words.{Request, Blobs, Build, list_path}
 use Rattle.mjolnir_cli.specs.Failures.{of_cut}
+use Rattle.mjolnir_cli.specs.Unbuilt.{unbuilt_among}
 use Rattle.mjolnir_cli.specs.PlainList.{plain_list, list_of}
-use Rattle.mjolnir_cli.specs.Answers.{StopsAt, blob_lines, IsListed, IsBuilt, PassesLimit, IsNotBuilt, IsAnswer, IsRefused, EndsSo}
-use Rattle.mjolnir_cli.proofs.Readings.{apart, same_blobs, same_draft}
+use Rattle.mjolnir_cli.specs.Answers.{StopsAt, blob_lines, IsListed, Spells, IsBuilt, HasUnbuilt, PassesLimit, IsNotBuilt, IsAnswer, IsRefused, EndsSo}
+use Rattle.mjolnir_cli.proofs.Readings.{apart, same_blobs, same_lists, not_refused}
 use Rattle.mjolnir_cli.proofs.SameRoads.{same_pieces, same_junctions}
-use Rattle.mjolnir_cli.proofs.OneAnswer.{not_both}
+use Rattle.mjolnir_cli.proofs.OneAnswer.{not_both, not_object}
 
 same_answer : (a b : Answer) → a.files ≡ b.files → a.text ≡ b.text → a ≡ b
 same_answer a b files text =
@@ -31,26 +36,25 @@ listed_once bytes a b one two =
     same_answer a b (one.unput ∙ sym two.unput)
     (one.lists.2 ∙ (ap blob_lines (same_blobs bytes 0 one.lists.0 two.lists.0 one.lists.1 two.lists.1) ∙ sym two.lists.2))
 
--- the failure of an outcome that is neither a blob nor the end
-abbrev failure_of : Outcome → Failure
-failure_of Ends = Words
-failure_of (Gives blob) = Words
-failure_of (Cut at) = Truncated at
-failure_of (NotPlain at) = NotBuilt at
+framing_is : (f g : PbfFault) → ◌≡◌ {A = Outcome} (Fails f) (Fails g) → f ≡ g
+framing_is f g e = cc
 
+fails_gives : (fault : PbfFault) (blob : Blob) → Fails fault ≡ Gives blob → ⊥
+fails_gives fault blob e = cc
+
+-- where the frames fail
 record Stops (bytes : List ℕ) (failure : Failure) : Type 0 where
-  outcome : Outcome
+  fault : PbfFault
   blobs : List Blob
-  frames : Frames bytes 0 blobs outcome
-  no_blob : (b : Blob) → outcome ≡ Gives b → ⊥
-  is : failure ≡ failure_of outcome
+  frames : Frames bytes 0 blobs (Fails fault)
+  is : failure ≡ failures.Extract (framed_as fault)
 
 stops : (bytes : List ℕ) (failure : Failure) → StopsAt bytes failure → Stops bytes failure
 stops bytes Words is = absurd is
 stops bytes Read is = absurd is
 stops bytes Put is = absurd is
-stops bytes (Truncated at) is = record { outcome = Cut at; blobs = is.0; frames = is.1; no_blob = λ b e. cc; is = refl }
-stops bytes (NotBuilt at) is = record { outcome = NotPlain at; blobs = is.0; frames = is.1; no_blob = λ b e. cc; is = refl }
+stops bytes (failures.Extract fault) is = record { fault = is.1; blobs = is.0; frames = is.2; is = ap (λ f. failures.Extract f) is.3 }
+stops bytes (NotBuilt kind id) is = absurd is
 stops bytes (Pieces count) is = absurd is
 stops bytes (EdgeTooLong way run piece cm) is = absurd is
 stops bytes OutOfMemory is = absurd is
@@ -59,68 +63,75 @@ stopped_once : (bytes : List ℕ) (f g : Failure) → StopsAt bytes f → StopsA
 stopped_once bytes f g one two =
     let a = stops bytes f one in
     let b = stops bytes g two in
-    a.is ∙ (ap failure_of (apart bytes 0 a.blobs b.blobs a.outcome b.outcome a.frames b.frames a.no_blob b.no_blob) ∙ sym b.is)
+    let fault = framing_is a.fault b.fault (apart bytes 0 a.blobs b.blobs (Fails a.fault) (Fails b.fault) a.frames b.frames (fails_gives a.fault) (fails_gives b.fault)) in
+    a.is ∙ (ap (λ f. failures.Extract (framed_as f)) fault ∙ sym b.is)
 
 -- ---- build
 
-same_list : (x y : Extract) → draft_of x ≡ draft_of y → plain_list x ≡ plain_list y
+same_list : (x y : Extract) → lists_of x ≡ lists_of y → plain_list x ≡ plain_list y
 same_list x y same =
     ap (λ js. list_of js (piece_rows x)) (same_junctions x y same) ∙ ap (λ ps. list_of (junction_rows y) ps) (same_pieces x y same)
 
 built_once : (output bytes : List ℕ) (a b : Answer) → IsBuilt output bytes a → IsBuilt output bytes b → a ≡ b
 built_once output bytes a b one two =
-    let same = same_draft bytes (draft_of one.extract) (draft_of two.extract) one.spelled.objects two.spelled.objects in
+    let same = same_lists bytes (lists_of one.extract) (lists_of two.extract) one.spelled two.spelled in
     same_answer a b (one.files ∙ (ap (λ list. (list_path output, list) ∷ []) (same_list one.extract two.extract same) ∙ sym two.files)) (one.silent ∙ sym two.silent)
 
--- the failure of a reading
-abbrev failure_in : Reading → Failure
-failure_in (Extracted objects) = Words
-failure_in (CutAt place) = Truncated place
-failure_in (OtherAt place) = NotBuilt place
+-- what a failure is to the bytes: a fault of them; or an object or a limit of the extract that they are
+data Reason (bytes : List ℕ) (failure : Failure) : Type 0 where
+  by_fault : (fault : ExtractFault) → Refuses bytes fault → failure ≡ failures.Extract fault → Reason bytes failure
+  by_object : (kind : MemberKind) (id : ℤ) → HasUnbuilt bytes kind id → failure ≡ NotBuilt kind id → Reason bytes failure
+  by_limit : (fault : CutFault) → PassesLimit bytes fault → failure ≡ of_cut fault → Reason bytes failure
 
--- the bytes are read as something else than an extract, or as one whose roads pass a limit
-record OtherReading (bytes : List ℕ) (failure : Failure) : Type 0 where
-  reading : Reading
-  reads : Reads bytes reading
-  other : (objects : Draft) → reading ≡ Extracted objects → ⊥
-  is : failure ≡ failure_in reading
+reason : (bytes : List ℕ) (failure : Failure) → IsNotBuilt bytes failure → Reason bytes failure
+reason bytes Words is = absurd is
+reason bytes Read is = absurd is
+reason bytes Put is = absurd is
+reason bytes (failures.Extract fault) is = by_fault fault is refl
+reason bytes (NotBuilt kind id) is = by_object kind id is refl
+reason bytes (Pieces count) is = by_limit (cut_faults.TooManyPieces count) is refl
+reason bytes (EdgeTooLong way run piece cm) is = by_limit (cut_faults.EdgeTooLong way run piece cm) is refl
+reason bytes OutOfMemory is = absurd is
 
-record AtLimit (bytes : List ℕ) (failure : Failure) : Type 0 where
-  limit : CutFault
-  passes : PassesLimit bytes limit
-  is : failure ≡ of_cut limit
+refused_is : (a b : ExtractFault) → Refused a ≡ Refused b → a ≡ b
+refused_is a b e = cc
 
-unbuilt_by : (bytes : List ℕ) (failure : Failure) → IsNotBuilt bytes failure → OtherReading bytes failure ⊎ AtLimit bytes failure
-unbuilt_by bytes Words is = absurd is
-unbuilt_by bytes Read is = absurd is
-unbuilt_by bytes Put is = absurd is
-unbuilt_by bytes (Truncated at) is = inl (record { reading = CutAt at; reads = is; other = λ objects e. cc; is = refl })
-unbuilt_by bytes (NotBuilt at) is = inl (record { reading = OtherAt at; reads = is; other = λ objects e. cc; is = refl })
-unbuilt_by bytes (Pieces count) is = inr (record { limit = cut_faults.TooManyPieces count; passes = is; is = refl })
-unbuilt_by bytes (EdgeTooLong way run piece cm) is = inr (record { limit = cut_faults.EdgeTooLong way run piece cm; passes = is; is = refl })
-unbuilt_by bytes OutOfMemory is = absurd is
+object_is : (a b : MemberKind × ℤ) → ◌≡◌ {A = Option (MemberKind × ℤ)} (Some a) (Some b) → a ≡ b
+object_is a b e = cc
 
-some_limit : (a b : CutFault) → ◌≡◌ {A = Option CutFault} (Some a) (Some b) → a ≡ b
-some_limit a b e = cc
+limit_is : (a b : CutFault) → ◌≡◌ {A = Option CutFault} (Some a) (Some b) → a ≡ b
+limit_is a b e = cc
 
-one_reading : (bytes : List ℕ) → IsReadOneWay bytes → (p q : Reading) → Reads bytes p → Reads bytes q → p ≡ q
-one_reading bytes way p q one two = way.only p one ∙ sym (way.only q two)
+-- two extracts that the bytes spell have the same objects
+same_objects : (bytes : List ℕ) (x y : Extract) → Spells bytes x → Spells bytes y → lists_of x ≡ lists_of y
+same_objects bytes x y one two = same_lists bytes (lists_of x) (lists_of y) one two
+
+same_object : (bytes : List ℕ) (k l : MemberKind) (i j : ℤ) → HasUnbuilt bytes k i → HasUnbuilt bytes l j → NotBuilt k i ≡ NotBuilt l j
+same_object bytes k l i j one two =
+    ap (λ (o : MemberKind × ℤ). NotBuilt o.0 o.1)
+    (object_is (k, i) (l, j) (sym one.first ∙ (ap unbuilt_among (same_objects bytes one.extract two.extract one.spelled two.spelled) ∙ two.first)))
+
+same_limit : (bytes : List ℕ) (a b : CutFault) → PassesLimit bytes a → PassesLimit bytes b → a ≡ b
+same_limit bytes a b one two =
+    limit_is a b (sym one.passed ∙ (ap refusal (same_pieces one.extract two.extract (same_objects bytes one.extract two.extract one.spelled two.spelled)) ∙ two.passed))
+
+object_or_limit : (bytes : List ℕ) (kind : MemberKind) (id : ℤ) (fault : CutFault) → HasUnbuilt bytes kind id → PassesLimit bytes fault → ⊥
+object_or_limit bytes kind id fault has passes = not_object bytes passes.extract has.extract (kind, id) passes.spelled has.spelled passes.built has.first
+
+same_failure : (bytes : List ℕ) (f g : Failure) → IsReadOneWay bytes → Reason bytes f → Reason bytes g → f ≡ g
+same_failure bytes f g way (by_fault a so is) (by_fault b also isb) =
+    is ∙ (ap (λ x. failures.Extract x) (refused_is a b (way.only (Refused a) so ∙ sym (way.only (Refused b) also))) ∙ sym isb)
+same_failure bytes f g way (by_fault a so is) (by_object k i has isb) = absurd (not_refused bytes (lists_of has.extract) a has.spelled so)
+same_failure bytes f g way (by_fault a so is) (by_limit b passes isb) = absurd (not_refused bytes (lists_of passes.extract) a passes.spelled so)
+same_failure bytes f g way (by_object k i has is) (by_fault b also isb) = absurd (not_refused bytes (lists_of has.extract) b has.spelled also)
+same_failure bytes f g way (by_object k i has is) (by_object l j more isb) = is ∙ (same_object bytes k l i j has more ∙ sym isb)
+same_failure bytes f g way (by_object k i has is) (by_limit b passes isb) = absurd (object_or_limit bytes k i b has passes)
+same_failure bytes f g way (by_limit a passes is) (by_fault b also isb) = absurd (not_refused bytes (lists_of passes.extract) b passes.spelled also)
+same_failure bytes f g way (by_limit a passes is) (by_object k i has isb) = absurd (object_or_limit bytes k i a has passes)
+same_failure bytes f g way (by_limit a passes is) (by_limit b more isb) = is ∙ (ap of_cut (same_limit bytes a b passes more) ∙ sym isb)
 
 unbuilt_once : (bytes : List ℕ) (f g : Failure) → IsReadOneWay bytes → IsNotBuilt bytes f → IsNotBuilt bytes g → f ≡ g
-unbuilt_once bytes f g way one two =
-    elim (unbuilt_by bytes f one) [
-      | inl a ↦ elim (unbuilt_by bytes g two) [
-        | inl b ↦ a.is ∙ (ap failure_in (one_reading bytes way a.reading b.reading a.reads b.reads) ∙ sym b.is)
-        | inr b ↦ absurd (a.other _ (one_reading bytes way a.reading (Extracted (draft_of b.passes.extract)) a.reads b.passes.spelled.objects))
-      ]
-      | inr a ↦ elim (unbuilt_by bytes g two) [
-        | inl b ↦ absurd (b.other _ (one_reading bytes way b.reading (Extracted (draft_of a.passes.extract)) b.reads a.passes.spelled.objects))
-        | inr b ↦
-            let same = same_draft bytes (draft_of a.passes.extract) (draft_of b.passes.extract) a.passes.spelled.objects b.passes.spelled.objects in
-            let limit : a.limit ≡ b.limit = some_limit a.limit b.limit (sym a.passes.passed ∙ (ap refusal (same_pieces a.passes.extract b.passes.extract same) ∙ b.passes.passed)) in
-            a.is ∙ (ap of_cut limit ∙ sym b.is)
-      ]
-    ]
+unbuilt_once bytes f g way one two = same_failure bytes f g way (reason bytes f one) (reason bytes g two)
 
 -- ---- each request
 

@@ -1,18 +1,23 @@
--- A plain extract is read in one way, and is neither cut off nor something else.
-use Rattle.std.proofs.Common.{◌≡◌, inl, inr, ℕ, List, [], ◌∷◌, ◌++◌, Option, Some, None, refl, sym, ap, subst, ◌∙◌, append_assoc}
+-- An extract is read in one way, and isn't refused.
+use Rattle.std.proofs.Common.{◌≡◌, ◌⊎◌, inl, inr, ℕ, Bool, true, false, ℤ, List, [], ◌∷◌, ◌++◌, length, Option, Some, None, Result, Ok, Err, refl, sym, ap, subst, ◌∙◌, append_assoc}
 use Rattle.pbf_blobs.specs.declared.blob.Blob.{Blob}
-use Rattle.pbf_blobs.specs.Next.{Outcome, Ends, Gives, Cut, NotPlain}
+use Rattle.pbf_blobs.specs.declared.fault.PbfFault.{PbfFault}
+use Rattle.pbf_blobs.specs.Next.{Outcome, Ends, Gives, Fails}
 use Rattle.pbf_blobs.specs.Frames.{Frames}
-use Rattle.osm_blocks.specs.Messages.{◌>>=◌, steps}
-use Rattle.osm_blocks.specs.Objects.{Draft}
-use Rattle.osm_blocks.specs.Extracts.{with_blob, begun_by, extract_of, IsExtract, IsCutAt, IsOtherAt}
+use Rattle.osm_model.specs.declared.relations.MemberKind.{MemberKind}
+use Rattle.osm_model.specs.declared.relations.MemberKind.TheVariants as kinds
+use Rattle.osm_objects.specs.Objects.{Objects}
+use Rattle.osm_blocks.specs.declared.fault.Counted.{Counted}
+use Rattle.osm_blocks.specs.declared.fault.ExtractFault.{ExtractFault}
+use Rattle.osm_blocks.specs.Counts.{counts_of, first_past}
+use Rattle.osm_blocks.specs.Extracts.{◌>>=◌, Draft, empty_draft, with_blob, with_blobs, node_id, way_id, relation_id, IsFirstTwice, EndsWith, IsFinished, Reads, Refuses}
+use Rattle.mjolnir_cli.proofs.Ordered.{one_order, not_twice}
 
 -- the blob of an outcome, or another one where it has none
 abbrev blob_or : Blob → Outcome → Blob
 blob_or other Ends = other
 blob_or other (Gives blob) = blob
-blob_or other (Cut at) = other
-blob_or other (NotPlain at) = other
+blob_or other (Fails fault) = other
 
 ends_gives : (blob : Blob) → Ends ≡ Gives blob → ⊥
 ends_gives blob e = cc
@@ -45,58 +50,85 @@ goes_on bytes at (a ∷ xs) (c ∷ ys) b f g =
     let on = goes_on bytes c.end xs ys b (subst (λ (d : Blob). Frames bytes d.end xs Ends) same f.1) g.1 in
     (on.0, ap (λ d. d ∷ xs) same ∙ ap (λ zs. c ∷ zs) on.1)
 
--- ---- where a front isn't plain, nothing behind it makes it so
+-- ---- drafts
 
-bound : (o : Option Draft) (f g : Draft → Option Draft) (more : List Blob) → ((d : Draft) → g d ≡ (f d >>= λ e. steps with_blob e more)) → (o >>= g) ≡ ((o >>= f) >>= λ e. steps with_blob e more)
-bound None f g more each = refl
-bound (Some d) f g more each = each d
+ok_is : (a b : Draft) → ◌≡◌ {A = Result Draft ExtractFault} (Ok a) (Ok b) → a ≡ b
+ok_is a b e = cc
 
-steps_split : (d : Draft) (xs more : List Blob) → steps with_blob d (xs ++ more) ≡ (steps with_blob d xs >>= λ e. steps with_blob e more)
-steps_split d [] more = refl
-steps_split d (x ∷ xs) more =
-    bound (with_blob d x) (λ e. steps with_blob e xs) (λ e. steps with_blob e (xs ++ more)) more (λ e. steps_split e xs more)
+ok_err : (a : Draft) (fault : ExtractFault) → ◌≡◌ {A = Result Draft ExtractFault} (Ok a) (Err fault) → ⊥
+ok_err a fault e = cc
 
-extract_split : (first : Blob) (xs more : List Blob) → extract_of (first ∷ (xs ++ more)) ≡ (extract_of (first ∷ xs) >>= λ e. steps with_blob e more)
-extract_split first xs more =
-    bound (begun_by first) (λ e. steps with_blob e xs) (λ e. steps with_blob e (xs ++ more)) more (λ e. steps_split e xs more)
+same_draft : (bytes : List ℕ) (xs ys : List Blob) (a b : Draft) → Frames bytes 0 xs Ends → Frames bytes 0 ys Ends → with_blobs empty_draft xs ≡ Ok a → with_blobs empty_draft ys ≡ Ok b → a ≡ b
+same_draft bytes xs ys a b f g one two = ok_is a b (sym one ∙ (ap (λ zs. with_blobs empty_draft zs) (same_blobs bytes 0 xs ys f g) ∙ two))
 
-none_more : (o : Option Draft) (more : List Blob) → o ≡ None → (o >>= λ e. steps with_blob e more) ≡ None
-none_more o more none = ap (λ q. q >>= λ e. steps with_blob e more) none
+bound : (o : Result Draft ExtractFault) (f g : Draft → Result Draft ExtractFault) (more : List Blob) → ((d : Draft) → g d ≡ (f d >>= λ e. with_blobs e more)) → (o >>= g) ≡ ((o >>= f) >>= λ e. with_blobs e more)
+bound (Err fault) f g more each = refl
+bound (Ok d) f g more each = each d
 
-refused_stays : (ys : List Blob) (b : Blob) (rest : List Blob) → extract_of (ys ++ b ∷ []) ≡ None → extract_of (ys ++ b ∷ rest) ≡ None
-refused_stays [] b rest none = extract_split b [] rest ∙ none_more (extract_of (b ∷ [])) rest none
-refused_stays (y ∷ ys) b rest none =
-    ap extract_of (ap (λ zs. y ∷ zs) (sym (append_assoc ys (b ∷ []) rest))) ∙ (extract_split y (ys ++ b ∷ []) rest ∙ none_more (extract_of (y ∷ (ys ++ b ∷ []))) rest none)
+split : (d : Draft) (xs more : List Blob) → with_blobs d (xs ++ more) ≡ (with_blobs d xs >>= λ e. with_blobs e more)
+split d [] more = refl
+split d (x ∷ xs) more =
+    bound (with_blob d x) (λ e. with_blobs e xs) (λ e. with_blobs e (xs ++ more)) more (λ e. split e xs more)
+
+-- a blob that is refused behind others is refused whatever follows
+refused_stays : (ys rest : List Blob) (b : Blob) (d : Draft) (fault : ExtractFault) → with_blobs empty_draft ys ≡ Ok d → with_blob d b ≡ Err fault → with_blobs empty_draft (ys ++ b ∷ rest) ≡ Err fault
+refused_stays ys rest b d fault grows refused =
+    split empty_draft ys (b ∷ rest) ∙ (ap (λ r. r >>= λ e. with_blobs e (b ∷ rest)) grows ∙ ap (λ r. r >>= λ e. with_blobs e rest) refused)
+
+-- ---- ends
+
+same_objects : (a b : Objects) → a.nodes ≡ b.nodes → a.ways ≡ b.ways → a.relations ≡ b.relations → a ≡ b
+same_objects a b nodes ways relations =
+    ap (λ ns. record { nodes = ns; ways = a.ways; relations = a.relations }) nodes
+    ∙ (ap (λ ws. record { nodes = b.nodes; ways = ws; relations = a.relations }) ways
+    ∙ ap (λ rs. record { nodes = b.nodes; ways = b.ways; relations = rs }) relations)
+
+finished_once : (draft : Draft) (a b : Objects) → IsFinished draft a → IsFinished draft b → a ≡ b
+finished_once draft a b one two =
+    same_objects a b (one_order node_id draft.objects.nodes a.nodes b.nodes one.nodes two.nodes)
+    (one_order way_id draft.objects.ways a.ways b.ways one.ways two.ways)
+    (one_order relation_id draft.objects.relations a.relations b.relations one.relations two.relations)
+
+no_twice : (draft : Draft) (lists : Objects) (kind : MemberKind) (id : ℤ) → IsFinished draft lists → IsFirstTwice draft.objects kind id → ⊥
+no_twice draft lists kinds.Node id is twice = not_twice node_id draft.objects.nodes lists.nodes id is.nodes twice
+no_twice draft lists kinds.Way id is twice = not_twice way_id draft.objects.ways lists.ways id is.ways twice.1
+no_twice draft lists kinds.Relation id is twice = not_twice relation_id draft.objects.relations lists.relations id is.relations twice.2
+
+true_false : (b : Bool) → b ≡ true → b ≡ false → ⊥
+true_false true t f = cc
+true_false false t f = cc
+
+none_some : (a : Counted × ℕ) → ◌≡◌ {A = Option (Counted × ℕ)} None (Some a) → ⊥
+none_some a e = cc
+
+not_at_end : (size : ℕ) (draft : Draft) (lists : Objects) (fault : ExtractFault) → IsFinished draft lists → EndsWith size draft fault → ⊥
+not_at_end size draft lists fault is (inl lacks) = true_false draft.headed is.headed lacks.headless
+not_at_end size draft lists fault is (inr (inl has)) = no_twice draft lists has.kind has.id is has.twice
+not_at_end size draft lists fault is (inr (inr many)) = none_some (many.what, many.count) (sym is.within ∙ many.past)
 
 -- ---- one reading
 
-some_is : (a b : Draft) → ◌≡◌ {A = Option Draft} (Some a) (Some b) → a ≡ b
-some_is a b e = cc
+pub same_lists : (bytes : List ℕ) (a b : Objects) → Reads bytes a → Reads bytes b → a ≡ b
+same_lists bytes a b one two =
+    let same = same_draft bytes one.blobs two.blobs one.draft two.draft one.frames two.frames one.grows two.grows in
+    finished_once two.draft a b (subst (λ (d : Draft). IsFinished d a) same one.ends) two.ends
 
-some_none : (a : Draft) → ◌≡◌ {A = Option Draft} (Some a) None → ⊥
-some_none a e = cc
+fails_gives : (fault : PbfFault) (blob : Blob) → Fails fault ≡ Gives blob → ⊥
+fails_gives fault blob e = cc
 
-pub same_draft : (bytes : List ℕ) (a b : Draft) → IsExtract bytes a → IsExtract bytes b → a ≡ b
-same_draft bytes a b one two =
-    some_is a b (sym one.spells ∙ (ap extract_of (same_blobs bytes 0 one.blobs two.blobs one.frames two.frames) ∙ two.spells))
+ends_fails : (fault : PbfFault) → Ends ≡ Fails fault → ⊥
+ends_fails fault e = cc
 
-pub not_cut : (bytes : List ℕ) (a : Draft) (place : ℕ) → IsExtract bytes a → IsCutAt bytes place → ⊥
-not_cut bytes a place whole cut =
-    let same : Ends ≡ Cut place = apart bytes 0 whole.blobs cut.blobs Ends (Cut place) whole.frames cut.next (λ b e. cc) (λ b e. cc) in cc
-
--- a blob with which the blobs aren't plain isn't one of them
-not_refused : (bytes : List ℕ) (a : Draft) (ys : List Blob) (b : Blob) → IsExtract bytes a → Frames bytes 0 ys (Gives b) → extract_of (ys ++ b ∷ []) ≡ None → ⊥
-not_refused bytes a ys b whole next none =
-    let on = goes_on bytes 0 whole.blobs ys b whole.frames next in
-    some_none a (sym whole.spells ∙ (ap extract_of on.1 ∙ refused_stays ys b on.0 none))
-
-pub not_other : (bytes : List ℕ) (a : Draft) (place : ℕ) → IsExtract bytes a → IsOtherAt bytes place → ⊥
-not_other bytes a place whole other =
-    elim other.next [
-      | inl frames ↦
-          let same : Ends ≡ NotPlain place = apart bytes 0 whole.blobs other.blobs Ends (NotPlain place) whole.frames frames (λ b e. cc) (λ b e. cc) in cc
+pub not_refused : (bytes : List ℕ) (lists : Objects) (fault : ExtractFault) → Reads bytes lists → Refuses bytes fault → ⊥
+not_refused bytes lists fault whole refused =
+    elim refused.next [
+      | inl h ↦ ends_fails h.0 (apart bytes 0 whole.blobs refused.blobs Ends (Fails h.0) whole.frames h.1 ends_gives (fails_gives h.0))
       | inr more ↦ elim more [
-        | inl h ↦ not_refused bytes a other.blobs h.0 whole h.1 h.2
-        | inr h ↦ some_none a (sym whole.spells ∙ ap extract_of (same_blobs bytes 0 whole.blobs [] whole.frames h.1))
+        | inl h ↦
+            let on = goes_on bytes 0 whole.blobs refused.blobs h.0 whole.frames h.1 in
+            ok_err whole.draft fault (sym whole.grows ∙ (ap (λ zs. with_blobs empty_draft zs) on.1 ∙ refused_stays refused.blobs on.0 h.0 refused.draft fault refused.grows h.2))
+        | inr h ↦
+            let same = same_draft bytes whole.blobs refused.blobs whole.draft refused.draft whole.frames h.0 whole.grows refused.grows in
+            not_at_end (length bytes) refused.draft lists fault (subst (λ (d : Draft). IsFinished d lists) same whole.ends) h.1
       ]
     ]

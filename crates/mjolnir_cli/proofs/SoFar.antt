@@ -2,14 +2,16 @@
 use Rattle.std.proofs.Common.{◌≡◌, ℕ, List, [], ◌∷◌, ◌++◌, drop, refl, sym, ap, subst, ◌∙◌, append_assoc, append-nil}
 use Rattle.std.proofs.lemmas.List.Concat.{flat_map-append}
 use Rattle.pbf_blobs.specs.declared.blob.Blob.{Blob}
-use Rattle.pbf_blobs.specs.Next.{Outcome, Ends, Gives, Cut, NotPlain, next_of}
+use Rattle.pbf_blobs.specs.Next.{Outcome, Ends, Gives, Fails, next_of}
 use Rattle.pbf_blobs.specs.Frames.{Frames}
-use Rattle.pbf_blobs.specs.Answers.{AnswersFault}
+use Rattle.pbf_blobs.specs.Answers.{AnswersFault, is_of_bytes}
 use Rattle.pbf_blobs.specs.declared.fault.PbfFault.{PbfFault}
-use Rattle.pbf_blobs.specs.declared.fault.PbfFault.TheVariants as pbf
+use Rattle.osm_blocks.specs.Faults.{framed_as}
+use Rattle.mjolnir_cli.specs.declared.failure.Failure.TheVariants.{Extract}
 use Rattle.mjolnir_cli.specs.Failures.{of_pbf, cause_of}
 use Rattle.mjolnir_cli.specs.Answers.{blob_line, blob_lines, ListsBlobs, StopsAt}
 use Rattle.mjolnir_cli.specs.Listing.{IfOfInput}
+use Rattle.mjolnir_cli.proofs.Causes.{if_input_frame, where_map}
 
 -- the text is the lines of blobs that lead from the input's start to the place
 pub record ListedTo (bytes : List ℕ) (at : ℕ) (text : List ℕ) : Type 0 where
@@ -38,7 +40,5 @@ lists_all bytes at text so_far is = (so_far.blobs, ends_with bytes at text Ends 
 
 -- a fault of the frames behind the blobs is the one with which the input is refused
 pub stops : (bytes : List ℕ) (at : ℕ) (text : List ℕ) (fault : PbfFault) → ListedTo bytes at text → AnswersFault fault (next_of at (drop at bytes)) → IfOfInput (cause_of (of_pbf fault)) (StopsAt bytes (of_pbf fault))
-stops bytes at text pbf.Read so_far is = tt
-stops bytes at text (pbf.Truncated place) so_far is = (so_far.blobs, ends_with bytes at text (Cut place) so_far is)
-stops bytes at text pbf.OutOfMemory so_far is = tt
-stops bytes at text (pbf.NotBuilt place) so_far is = (so_far.blobs, ends_with bytes at text (NotPlain place) so_far is)
+stops bytes at text fault so_far is =
+    if_input_frame (StopsAt bytes) fault (where_map (next_of at (drop at bytes) ≡ Fails fault) (StopsAt bytes (Extract (framed_as fault))) (is_of_bytes fault) (λ fails. (so_far.blobs, fault, ends_with bytes at text (Fails fault) so_far fails, refl)) is)

@@ -1,14 +1,16 @@
 -- What a request's answer is, for the bytes of its input: the files that are put and the text that is said when
 -- it is done, or the failure with which the input is refused.
-use Rattle.std.specs.Prelude.{◌≡◌, ◌⊎◌, ℕ, List, [], ◌∷◌, ◌++◌, Option, Some, None, Result, Ok, Err}
+use Rattle.std.specs.Prelude.{◌≡◌, ◌⊎◌, ℕ, ℤ, List, [], ◌∷◌, ◌++◌, Option, Some, None, Result, Ok, Err}
 use Rattle.std.specs.List.{flat_map}
 use Rattle.std.specs.Fmt.{decimal}
 use Rattle.pbf_blobs.specs.declared.blob.Blob.{Blob}
-use Rattle.pbf_blobs.specs.Next.{Ends, Cut, NotPlain}
+use Rattle.pbf_blobs.specs.declared.fault.PbfFault.{PbfFault}
+use Rattle.pbf_blobs.specs.Next.{Ends, Fails}
 use Rattle.pbf_blobs.specs.Frames.{Frames}
 use Rattle.osm_model.specs.declared.extract.Extract.{Extract}
-use Rattle.osm_blocks.specs.Objects.{draft_of}
-use Rattle.osm_blocks.specs.Extracts.{Extracted, CutAt, OtherAt, Reads}
+use Rattle.osm_model.specs.declared.relations.MemberKind.{MemberKind}
+use Rattle.osm_blocks.specs.Faults.{framed_as}
+use Rattle.osm_blocks.specs.Extracts.{Reads, Refuses, lists_of}
 use Rattle.road_pieces.specs.declared.rows.Junction.{Junction}
 use Rattle.road_pieces.specs.declared.rows.Piece.{Piece}
 use Rattle.road_pieces.specs.declared.faults.CutFault.{CutFault}
@@ -16,10 +18,11 @@ use Rattle.road_pieces.specs.declared.faults.CutFault.TheVariants as cut_faults
 use Rattle.road_pieces.specs.Rows.{junction_rows, piece_rows, refusal}
 use Rattle.mjolnir_cli.specs.declared.answer.Answer.{Answer}
 use Rattle.mjolnir_cli.specs.declared.failure.Failure.{Failure}
-use Rattle.mjolnir_cli.specs.declared.failure.Failure.TheVariants.{Truncated, NotBuilt, Pieces, EdgeTooLong, OutOfMemory}
+use Rattle.mjolnir_cli.specs.declared.failure.Failure.TheVariants.{Extract as ExtractFails, NotBuilt, Pieces, EdgeTooLong, OutOfMemory}
 use Rattle.mjolnir_cli.specs.Words.{Request, Blobs, Build, list_path}
 use Rattle.mjolnir_cli.specs.Failures.{of_cut}
 use Rattle.mjolnir_cli.specs.PlainList.{plain_list}
+use Rattle.mjolnir_cli.specs.Unbuilt.{unbuilt}
 
 -- ---- blobs
 
@@ -36,8 +39,7 @@ ListsBlobs bytes text = (blobs : List Blob) × Frames bytes 0 blobs Ends × (tex
 
 -- The bytes begin with triples, and what follows has this fault.
 abbrev pub StopsAt : List ℕ → Failure → Type 0
-StopsAt bytes (Truncated at) = (blobs : List Blob) × Frames bytes 0 blobs (Cut at)
-StopsAt bytes (NotBuilt at) = (blobs : List Blob) × Frames bytes 0 blobs (NotPlain at)
+StopsAt bytes (ExtractFails fault) = (blobs : List Blob) × (framing : PbfFault) × Frames bytes 0 blobs (Fails framing) × (fault ≡ framed_as framing)
 StopsAt bytes other = ⊥
 
 -- No file is put, and the text is the lines of the blobs.
@@ -47,45 +49,66 @@ pub record IsListed (bytes : List ℕ) (answer : Answer) : Type 0 where
 
 -- ---- build
 
--- The bytes are the plain extract x; it has no relations.
-pub record Spells (bytes : List ℕ) (x : Extract) : Type 0 where
-  pub objects : Reads bytes (Extracted (draft_of x))
-  pub relations : x.relations ≡ []
+-- The bytes are the extract x.
+abbrev pub Spells : List ℕ → Extract → Type 0
+Spells bytes x = Reads bytes (lists_of x)
 
--- The bytes are an extract whose roads pass no limit, and which has these junctions and pieces.
+-- The bytes are an extract whose objects are all built and whose roads pass no limit, and which has these junctions
+-- and pieces.
 pub record IsCut (bytes : List ℕ) (junctions : List Junction) (pieces : List Piece) : Type 0 where
   pub extract : Extract
   pub spelled : Spells bytes extract
+  pub built : unbuilt extract ≡ None
   pub within : refusal (piece_rows extract) ≡ None
   pub junctions_are : junctions ≡ junction_rows extract
   pub pieces_are : pieces ≡ piece_rows extract
 
--- The bytes are an extract whose roads pass no limit; the one file is the list of its junctions and pieces, and
--- nothing is said.
+-- The bytes are an extract whose objects are all built and whose roads pass no limit; the one file is the list of its
+-- junctions and pieces, and nothing is said.
 pub record IsBuilt (output bytes : List ℕ) (answer : Answer) : Type 0 where
   pub extract : Extract
   pub spelled : Spells bytes extract
+  pub built : unbuilt extract ≡ None
   pub within : refusal (piece_rows extract) ≡ None
   pub files : answer.files ≡ (list_path output, plain_list extract) ∷ []
   pub silent : answer.text ≡ []
 
--- The bytes are an extract whose roads pass this limit.
+-- The bytes are an extract, and this is its first object that isn't built yet.
+pub record HasUnbuilt (bytes : List ℕ) (kind : MemberKind) (id : ℤ) : Type 0 where
+  pub extract : Extract
+  pub spelled : Spells bytes extract
+  pub first : unbuilt extract ≡ Some (kind, id)
+
+-- The bytes are an extract whose objects are all built, and whose roads pass this limit.
 pub record PassesLimit (bytes : List ℕ) (limit : CutFault) : Type 0 where
   pub extract : Extract
   pub spelled : Spells bytes extract
+  pub built : unbuilt extract ≡ None
   pub passed : refusal (piece_rows extract) ≡ Some limit
 
--- The bytes are cut off or no plain extract from a place on, or a limit is passed.
+-- The bytes are refused with a fault, or an object isn't built yet, or a limit is passed.
 abbrev pub IsNotBuilt : List ℕ → Failure → Type 0
-IsNotBuilt bytes (Truncated at) = Reads bytes (CutAt at)
-IsNotBuilt bytes (NotBuilt at) = Reads bytes (OtherAt at)
+IsNotBuilt bytes (ExtractFails fault) = Refuses bytes fault
+IsNotBuilt bytes (NotBuilt kind id) = HasUnbuilt bytes kind id
 IsNotBuilt bytes (Pieces count) = PassesLimit bytes (cut_faults.TooManyPieces count)
 IsNotBuilt bytes (EdgeTooLong way run piece cm) = PassesLimit bytes (cut_faults.EdgeTooLong way run piece cm)
 IsNotBuilt bytes other = ⊥
 
--- what a failure of the roads is: want of memory, or the limit that they pass
-abbrev pub IsPassed : Failure → Option CutFault → Type 0
-IsPassed failure limit = (failure ≡ OutOfMemory) ⊎ ((fault : CutFault) × (limit ≡ Some fault) × (failure ≡ of_cut fault))
+-- what a failure of an extract is: want of memory, an object that isn't built yet, or the limit that its roads pass
+pub record IsUnbuilt (failure : Failure) (x : Extract) : Type 0 where
+  pub kind : MemberKind
+  pub id : ℤ
+  pub first : unbuilt x ≡ Some (kind, id)
+  pub is : failure ≡ NotBuilt kind id
+
+pub record IsPassed (failure : Failure) (x : Extract) : Type 0 where
+  pub built : unbuilt x ≡ None
+  pub limit : CutFault
+  pub passed : refusal (piece_rows x) ≡ Some limit
+  pub is : failure ≡ of_cut limit
+
+abbrev pub IsOfExtract : Failure → Extract → Type 0
+IsOfExtract failure x = (failure ≡ OutOfMemory) ⊎ (IsUnbuilt failure x ⊎ IsPassed failure x)
 
 -- ---- each request
 

@@ -1,23 +1,24 @@
 -- Why a command isn't done: the status that the program ends with, and the line that it says.
-use Rattle.std.specs.Prelude.{ℕ, List, [], ◌∷◌, ◌++◌, codes}
+use Rattle.std.specs.Prelude.{ℕ, nat_lt, if◌then◌else◌, List, [], ◌∷◌, ◌++◌, map, codes}
 use Rattle.std.specs.Fmt.{decimal, signed_decimal}
 use Rattle.host_port.specs.declared.host.HostFault.{HostFault}
 use Rattle.host_port.specs.declared.host.HostFault.TheVariants as host_faults
 use Rattle.pbf_blobs.specs.declared.fault.PbfFault.{PbfFault}
-use Rattle.pbf_blobs.specs.declared.fault.PbfFault.TheVariants as pbf_faults
-use Rattle.osm_blocks.specs.declared.read.ExtractFault.{ExtractFault}
-use Rattle.osm_blocks.specs.declared.read.ExtractFault.TheVariants as extract_faults
+use Rattle.osm_blocks.specs.declared.fault.ExtractFault.{ExtractFault}
+use Rattle.osm_blocks.specs.declared.fault.ExtractFault.TheVariants as faults
+use Rattle.osm_blocks.specs.Faults.{framed_as}
 use Rattle.road_pieces.specs.declared.faults.CutFault.{CutFault}
 use Rattle.road_pieces.specs.declared.faults.CutFault.TheVariants as cut_faults
 use Rattle.mjolnir_cli.specs.declared.failure.Failure.{Failure}
-use Rattle.mjolnir_cli.specs.declared.failure.Failure.TheVariants.{Words, Read, Put, Truncated, NotBuilt, Pieces, EdgeTooLong, OutOfMemory}
+use Rattle.mjolnir_cli.specs.declared.failure.Failure.TheVariants.{Words, Read, Put, Extract, NotBuilt, Pieces, EdgeTooLong, OutOfMemory}
+use Rattle.mjolnir_cli.specs.FaultTexts.{fault_text, kind_word}
 
 -- what a failure is due to
 pub data Cause : Type 0 where
   OfWords : Cause
   OfReading : Cause
   OfPutting : Cause
-  -- the bytes of the input
+  -- the input's bytes, or an object that isn't built yet
   OfBytes : Cause
   -- a limit that the roads of the input pass
   OfLimits : Cause
@@ -27,8 +28,8 @@ abbrev pub cause_of : Failure → Cause
 cause_of Words = OfWords
 cause_of Read = OfReading
 cause_of Put = OfPutting
-cause_of (Truncated at) = OfBytes
-cause_of (NotBuilt at) = OfBytes
+cause_of (Extract fault) = OfBytes
+cause_of (NotBuilt kind id) = OfBytes
 cause_of (Pieces count) = OfLimits
 cause_of (EdgeTooLong way run piece cm) = OfLimits
 cause_of OutOfMemory = OfMemory
@@ -50,15 +51,20 @@ abbrev pub text_of : Failure → List ℕ
 text_of Words = codes "error 2 words"
 text_of Read = codes "error 3 read"
 text_of Put = codes "error 4 put"
-text_of (Truncated at) = codes "error 5 Truncated at=" ++ decimal at
-text_of (NotBuilt at) = codes "error 5 NotBuilt at=" ++ decimal at
+text_of (Extract fault) = codes "error 5 " ++ fault_text fault
+text_of (NotBuilt kind id) = codes "error 5 NotBuilt kind=" ++ (kind_word kind ++ (codes " id=" ++ signed_decimal id))
 text_of (Pieces count) = codes "error 6 Pieces count=" ++ decimal count
 text_of (EdgeTooLong way run piece cm) =
     codes "error 6 EdgeTooLong way=" ++ (signed_decimal way ++ (codes " run=" ++ (decimal run ++ (codes " piece=" ++ (decimal piece ++ (codes " cm=" ++ decimal cm))))))
 text_of OutOfMemory = codes "error 7 memory"
 
+-- a byte as it is said: `?` in place of a control character
+abbrev pub printable : ℕ → ℕ
+printable byte = if nat_lt byte 32 then 63 else byte
+
+-- the line, which has one end
 abbrev pub line_of : Failure → List ℕ
-line_of failure = text_of failure ++ 10 ∷ []
+line_of failure = map printable (text_of failure) ++ 10 ∷ []
 
 -- what a fault of the host is to a command that reads, and to one that puts
 abbrev pub of_host : HostFault → Failure
@@ -69,19 +75,14 @@ abbrev pub of_put : HostFault → Failure
 of_put host_faults.Failed = Put
 of_put host_faults.OutOfMemory = OutOfMemory
 
--- what a fault of the frames is to a command
-abbrev pub of_pbf : PbfFault → Failure
-of_pbf pbf_faults.Read = Read
-of_pbf (pbf_faults.Truncated at) = Truncated at
-of_pbf (pbf_faults.NotBuilt at) = NotBuilt at
-of_pbf pbf_faults.OutOfMemory = OutOfMemory
-
--- what a fault of an extract is to a command
+-- what a fault of an extract is to a command, and a fault of the frames
 abbrev pub of_extract : ExtractFault → Failure
-of_extract extract_faults.Read = Read
-of_extract (extract_faults.Truncated at) = Truncated at
-of_extract (extract_faults.NotBuilt at) = NotBuilt at
-of_extract extract_faults.OutOfMemory = OutOfMemory
+of_extract faults.Read = Read
+of_extract faults.OutOfMemory = OutOfMemory
+of_extract fault = Extract fault
+
+abbrev pub of_pbf : PbfFault → Failure
+of_pbf fault = of_extract (framed_as fault)
 
 -- what a fault of the roads is to a command
 abbrev pub of_cut : CutFault → Failure

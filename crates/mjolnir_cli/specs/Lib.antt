@@ -1,7 +1,9 @@
 pub mod Words
 pub mod Commands
+pub mod FaultTexts
 pub mod Failures
 pub mod PlainList
+pub mod Unbuilt
 pub mod Answers
 pub mod RoadLists
 pub mod Puts

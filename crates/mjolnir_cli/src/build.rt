@@ -6,15 +6,17 @@ ghost use Rattle.host_port.specs.Told.{named};
 ghost use Rattle.pbf_blobs.specs.Input.{OnlyMoved};
 ghost use Rattle.road_pieces.specs.Rows.{junction_rows, piece_rows, refusal};
 ghost use Rattle.mjolnir_cli.specs.Words.{list_path};
+ghost use Rattle.mjolnir_cli.specs.Unbuilt.{unbuilt};
 ghost use Rattle.mjolnir_cli.specs.Failures.{cause_of};
 ghost use Rattle.mjolnir_cli.specs.Puts.{paths};
 ghost use Rattle.mjolnir_cli.specs.PlainList.{list_of};
-ghost use Rattle.mjolnir_cli.specs.Answers.{IsBuilt, IsNotBuilt, IsCut, IsPassed};
+ghost use Rattle.mjolnir_cli.specs.Answers.{IsBuilt, IsNotBuilt, IsCut, IsOfExtract};
 ghost use Rattle.mjolnir_cli.specs.Listing.{IfOfInput, IsMet, CountedRead, IfRead, OnlyRead};
 
 use crate::answer::Answer;
 use crate::failure::Failure;
 use crate::plain::plain_text;
+use crate::unbuilt::first_unbuilt;
 use host_port::{Bytes, Host, HostFiles, Text};
 use osm_blocks::read_extract;
 use osm_model::Extract;
@@ -86,21 +88,25 @@ fn roads_of<H: Host>(alloc: Global, host: &mut H) -> Result<Roads, Failure>
     ensures cause { H.willing host.old → IfRead result ((H.told host.old).is_open ≡ Some false) }
 {
     match read_extract(alloc, host) {
-        Ok(extract) => cut_roads(alloc, &extract),
+        Ok(extract) => built_roads(alloc, &extract),
         Err(fault) => Err(Failure::from(fault)),
     }
 }
 
-/// The roads of an extract.
-fn cut_roads(alloc: Global, extract: &Extract) -> Result<Roads, Failure>
+/// The roads of an extract whose objects are all built.
+fn built_roads(alloc: Global, extract: &Extract) -> Result<Roads, Failure>
     ensures junctions { IfOk result (λ roads. roads.junctions ≡ junction_rows extract.now) }
     ensures pieces { IfOk result (λ roads. roads.pieces ≡ piece_rows extract.now) }
+    ensures built { OnOk result (unbuilt extract.now ≡ None) }
     ensures within { OnOk result (refusal (piece_rows extract.now) ≡ None) }
-    ensures passed { IfErr result (λ failure. IsPassed failure (refusal (piece_rows extract.now))) }
+    ensures refused { IfErr result (λ failure. IsOfExtract failure extract.now) }
 {
-    match cut(alloc, extract) {
-        Ok(roads) => Ok(roads),
-        Err(fault) => Err(Failure::from(fault)),
+    match first_unbuilt(extract) {
+        Some((kind, id)) => Err(Failure::NotBuilt { kind, id }),
+        None => match cut(alloc, extract) {
+            Ok(roads) => Ok(roads),
+            Err(fault) => Err(Failure::from(fault)),
+        },
     }
 }
 

@@ -44,6 +44,6 @@ pub(crate) fn deliver<H: Host>(alloc: Global, host: &mut H, answer: &Answer) -> 
 {
     match put_files(host, answer.files.as_slice()) {
         Ok(()) => say_text(alloc, host, answer.text.as_str()),
-        Err(fault) => say_failure(alloc, host, Failure::of_put(fault)),
+        Err(fault) => say_failure(alloc, host, &Failure::of_put(fault)),
     }
 }

@@ -1,19 +1,21 @@
 //! Why a command isn't done.
 
-ghost use Rattle.std.specs.Prelude.{◌≡◌, Some, IfOk};
-ghost use Rattle.std.specs.String.{string_bytes};
-ghost use Rattle.mjolnir_cli.specs.Failures.{status_of, text_of, line_of, of_host, of_put, of_pbf, of_extract, of_cut};
+ghost use Rattle.std.specs.Prelude.{◌≡◌, ◌++◌, map, Some, IfOk, OnOk};
+ghost use Rattle.osm_blocks.specs.Faults.{framed_as};
+ghost use Rattle.mjolnir_cli.specs.Failures.{status_of, text_of, line_of, printable, of_host, of_put, of_pbf, of_extract, of_cut};
 ghost use Rattle.mjolnir_cli.specs.declared.failure.Failure.TheVariants.{OutOfMemory};
 
+use crate::fault_text::{FaultText, kind_word};
 use host_port::HostFault;
 use osm_blocks::ExtractFault;
+use osm_model::MemberKind;
 use pbf_blobs::PbfFault;
 use road_pieces::CutFault;
 use std::alloc::{AllocError, Global};
 use std::fmt;
 
 /// Why a command isn't done. The program ends with its status, and says its line.
-#[derive(Clone, Copy, Debug, PartialEq, Eq)]
+#[derive(Debug, PartialEq, Eq, Drop)]
 pub enum Failure {
     /// The words ask for nothing that the program does.
     Words,
@@ -21,13 +23,15 @@ pub enum Failure {
     Read,
     /// The host counted a fault of putting.
     Put,
-    /// The input ends inside the length, header or blob that begins at `at`.
-    Truncated {
-        at: u64,
+    /// The input has this fault. A fault of reading and want of memory stand as variants of their own.
+    Extract {
+        fault: ExtractFault,
     },
-    /// The input has a form at `at` that isn't read yet.
+    /// An object of the extract has a tag that isn't built yet: the first node by id, or else the first way, or
+    /// else the first relation.
     NotBuilt {
-        at: u64,
+        kind: MemberKind,
+        id: i64,
     },
     /// The roads have too many pieces.
     Pieces {
@@ -46,24 +50,28 @@ pub enum Failure {
 
 impl Failure {
     /// The status that the program ends with.
-    pub fn status(self) -> u8
-        ensures { result ≡ status_of self }
+    pub fn status(&self) -> u8
+        ensures { result ≡ status_of self.now }
     {
         match self {
             Failure::Words => 2,
             Failure::Read => 3,
             Failure::Put => 4,
-            Failure::Truncated { .. } | Failure::NotBuilt { .. } => 5,
+            Failure::Extract { .. } | Failure::NotBuilt { .. } => 5,
             Failure::Pieces { .. } | Failure::EdgeTooLong { .. } => 6,
             Failure::OutOfMemory => 7,
         }
     }
 
-    /// The line that the program says, with its end.
-    pub fn line(self, alloc: Global) -> Result<String, AllocError>
-        ensures { IfOk result (λ line. string_bytes line ≡ line_of self) }
+    /// The line that the program says, with its end. A control character is said as `?`, so that it is one line.
+    pub fn line(&self, alloc: Global) -> Result<Vec<u8>, AllocError>
+        ensures { IfOk result (λ line. line.items ≡ line_of self.now) }
     {
-        format!(in alloc; "{self}\n")
+        let text = format!(in alloc; "{self}")?;
+        let mut line = Vec::new(alloc);
+        push_printable(&mut line, text.as_bytes())?;
+        line.push(b'\n')?;
+        Ok(line)
     }
 
     /// What a fault of the host is to a command that puts a file.
@@ -77,6 +85,23 @@ impl Failure {
     }
 }
 
+/// Adds these bytes as they are said: `?` in place of a control character.
+fn push_printable(line: &mut Vec<u8>, text: &[u8]) -> Result<(), AllocError>
+    ensures { OnOk result (line.new.items ≡ line.old.items ++ map printable text.now) }
+{
+    for byte in text {
+        line.push(printable(*byte))?;
+    }
+    Ok(())
+}
+
+/// A byte as it is said.
+fn printable(byte: u8) -> u8
+    ensures { result ≡ printable byte }
+{
+    if byte < 32 { 63 } else { byte }
+}
+
 impl fmt::Display for Failure {
     ghost use Rattle.std.specs.Prelude.{Some};
     ghost use Rattle.mjolnir_cli.specs.Failures.{text_of};
@@ -88,8 +113,10 @@ impl fmt::Display for Failure {
             Failure::Words => write!(f, "error 2 words"),
             Failure::Read => write!(f, "error 3 read"),
             Failure::Put => write!(f, "error 4 put"),
-            Failure::Truncated { at } => write!(f, "error 5 Truncated at={at}"),
-            Failure::NotBuilt { at } => write!(f, "error 5 NotBuilt at={at}"),
+            Failure::Extract { fault } => write!(f, "error 5 {}", FaultText { fault }),
+            Failure::NotBuilt { kind, id } => {
+                write!(f, "error 5 NotBuilt kind={} id={id}", kind_word(*kind))
+            }
             Failure::Pieces { count } => write!(f, "error 6 Pieces count={count}"),
             Failure::EdgeTooLong {
                 way,
@@ -116,16 +143,30 @@ impl From<HostFault> for Failure {
     }
 }
 
+/// What a fault of the framing is to a reader of extracts.
+fn framed(fault: PbfFault) -> ExtractFault
+    ensures { result ≡ framed_as fault }
+{
+    match fault {
+        PbfFault::Read => ExtractFault::Read,
+        PbfFault::Truncated { at } => ExtractFault::Truncated { at },
+        PbfFault::HeaderTooLong { at, len } => ExtractFault::HeaderTooLong { at, len },
+        PbfFault::BlobTooLong { at, len } => ExtractFault::BlobTooLong { at, len },
+        PbfFault::Compressed { at, field } => ExtractFault::Compressed { at, field },
+        PbfFault::Wire { fault } => ExtractFault::Wire { fault },
+        PbfFault::NoPayload { at } => ExtractFault::NoPayload { at },
+        PbfFault::TooLarge { bytes } => ExtractFault::TooLarge { bytes },
+        PbfFault::OutOfMemory => ExtractFault::OutOfMemory,
+        PbfFault::MissingField { at, number } => ExtractFault::MissingField { at, number },
+        PbfFault::BadType { at } => ExtractFault::BadType { at },
+    }
+}
+
 impl From<PbfFault> for Failure {
     ghost from_gives = { λ fault made. made ≡ of_pbf fault };
 
     fn from(fault: PbfFault) -> Failure {
-        match fault {
-            PbfFault::Read => Failure::Read,
-            PbfFault::Truncated { at } => Failure::Truncated { at },
-            PbfFault::NotBuilt { at } => Failure::NotBuilt { at },
-            PbfFault::OutOfMemory => Failure::OutOfMemory,
-        }
+        Failure::from(framed(fault))
     }
 }
 
@@ -135,9 +176,8 @@ impl From<ExtractFault> for Failure {
     fn from(fault: ExtractFault) -> Failure {
         match fault {
             ExtractFault::Read => Failure::Read,
-            ExtractFault::Truncated { at } => Failure::Truncated { at },
-            ExtractFault::NotBuilt { at } => Failure::NotBuilt { at },
             ExtractFault::OutOfMemory => Failure::OutOfMemory,
+            fault => Failure::Extract { fault },
         }
     }
 }

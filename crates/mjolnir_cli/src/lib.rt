@@ -6,6 +6,7 @@ mod blobs;
 mod build;
 mod deliver;
 mod failure;
+mod fault_text;
 mod law;
 mod plain;
 mod put;
@@ -13,6 +14,7 @@ mod say;
 #[cfg(test)]
 mod tests;
 mod top;
+mod unbuilt;
 mod words;
 
 pub use answer::Answer;

@@ -31,15 +31,15 @@ pub(crate) fn say_text<H: Host>(alloc: Global, host: &mut H, text: &str) -> u8
     match host.say(text.as_bytes()) {
         Ok(()) => 0,
         Err(HostFault::Failed) => 9,
-        Err(HostFault::OutOfMemory) => say_failure(alloc, host, Failure::OutOfMemory),
+        Err(HostFault::OutOfMemory) => say_failure(alloc, host, &Failure::OutOfMemory),
     }
 }
 
 /// Says the line of a failure, and answers its status. Where saying it fails, the line is lost; where
 /// there is no memory for it, it is lost too, and the status is that of want of memory.
-pub(crate) fn say_failure<H: Host>(alloc: Global, host: &mut H, failure: Failure) -> u8
-    ensures status { (result ≡ status_of failure) ⊎ (result ≡ 7) }
-    ensures line { result ≢ 7 → SaysLine (line_of failure) (H.told host.old) (H.told host.new) (H.say_faults host.old) (H.say_faults host.new) }
+pub(crate) fn say_failure<H: Host>(alloc: Global, host: &mut H, failure: &Failure) -> u8
+    ensures status { (result ≡ status_of failure.now) ⊎ (result ≡ 7) }
+    ensures line { result ≢ 7 → SaysLine (line_of failure.now) (H.told host.old) (H.told host.new) (H.say_faults host.old) (H.say_faults host.new) }
     ensures memory { result ≡ 7 → Adds (line_of OutOfMemory) (H.told host.old) (H.told host.new) ⊎ ((H.told host.new).said ≡ (H.told host.old).said) }
     ensures others { OnlySaid (H.told host.old) (H.told host.new) }
     ensures reads { H.read_faults host.new ≡ H.read_faults host.old }
@@ -47,7 +47,7 @@ pub(crate) fn say_failure<H: Host>(alloc: Global, host: &mut H, failure: Failure
     ensures willing { H.willing host.old → H.say_faults host.new ≡ H.say_faults host.old }
 {
     match failure.line(alloc) {
-        Ok(line) => match host.say(line.as_bytes()) {
+        Ok(line) => match host.say(line.as_slice()) {
             Ok(()) => failure.status(),
             Err(HostFault::Failed) => failure.status(),
             Err(HostFault::OutOfMemory) => Failure::OutOfMemory.status(),

@@ -3,6 +3,7 @@
 
 mod builds;
 mod plain_extract;
+mod refusals;
 
 use crate::mjolnir;
 use host_port::{Bytes, MemHost, NoGate, Text};
@@ -99,8 +100,16 @@ fn rows(rt: HostRuntime) -> Result<(), Fail> {
         (both.as_slice(), 0, "0 OSMHeader 18\n35 OSMData 62\n"),
         (UNKNOWN.as_slice(), 0, "0 Unknown00 4\n"),
         ([].as_slice(), 0, ""),
-        (COMPRESSED.as_slice(), 5, "error 5 NotBuilt at=0\n"),
-        (LONG.as_slice(), 5, "error 5 NotBuilt at=0\n"),
+        (
+            COMPRESSED.as_slice(),
+            5,
+            "error 5 Compressed at=17 field=3\n",
+        ),
+        (
+            LONG.as_slice(),
+            5,
+            "error 5 HeaderTooLong at=0 len=16777229\n",
+        ),
         (&HEADER[..34], 5, "error 5 Truncated at=17\n"),
         (&HEADER[..3], 5, "error 5 Truncated at=0\n"),
     ] {

@@ -123,10 +123,10 @@ pub fn mjolnir<R: Threads + Sync, H: Host, G: Gate>(
 {
     list_agrees();
     match asked(words) {
-        None => say_failure(alloc, host, Failure::Words),
+        None => say_failure(alloc, host, &Failure::Words),
         Some(command) => match run(alloc, command, host) {
             Ok(answer) => deliver(alloc, host, &answer),
-            Err(failure) => say_failure(alloc, host, failure),
+            Err(failure) => say_failure(alloc, host, &failure),
         },
     }
 }

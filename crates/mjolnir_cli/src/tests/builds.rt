@@ -56,7 +56,7 @@ fn holds(host: &MemHost, list: &[u8], puts: usize) -> bool {
 }
 
 /// Whether a build of these bytes ends so in pieces of each size: with this status, this list and this line.
-fn ends<R: Threads + Sync + AllocGlobal>(
+pub(super) fn ends<R: Threads + Sync + AllocGlobal>(
     rt: &R,
     bytes: &[u8],
     status: u8,
@@ -117,6 +117,13 @@ fn lists(rt: HostRuntime) -> Result<(), Fail> {
             [1, 1].as_slice(),
             "mjolnir-plain 1\n",
         ),
+        // node 99 isn't there: a run of 1 and 2, and one of 3 and 4
+        (
+            [0, 10_000, 20_000, 30_000].as_slice(),
+            [0; 4].as_slice(),
+            [1, 2, 99, 3, 4].as_slice(),
+            "mjolnir-plain 1\nn 1 4152962\nn 2 4152962\nn 3 4152962\nn 4 4152962\np 10 0 0 1 2 11132\np 10 1 0 3 4 11132\n",
+        ),
         // the longest piece; its end is in row 456: 2 + 8 * (456 * 1440 + 720) = 5258882
         (
             [0, 241_138_569].as_slice(),
@@ -132,27 +139,12 @@ fn lists(rt: HostRuntime) -> Result<(), Fail> {
     Ok(())
 }
 
-// A refused input puts nothing, and the older list stays.
+// Roads that pass a limit put nothing, and the older list stays.
 #[test]
-fn refused(rt: HostRuntime) -> Result<(), Fail> {
-    let alloc = rt.alloc();
-    let long = extract_of(alloc, &HEADER, &[0, 241_138_570], &[0, 0], &[1, 2])?;
-    let cut = front(alloc, 111)?;
-    // the last ref is 3, and there is no node 3
-    let mut other = front(alloc, 111)?;
-    other.push(0x04)?;
-    for (bytes, status, said) in [
-        (
-            long.as_slice(),
-            6,
-            "error 6 EdgeTooLong way=10 run=0 piece=0 cm=268435456\n",
-        ),
-        (other.as_slice(), 5, "error 5 NotBuilt at=35\n"),
-        (cut.as_slice(), 5, "error 5 Truncated at=50\n"),
-        (&[], 5, "error 5 NotBuilt at=0\n"),
-    ] {
-        assert!(rt; ends(&rt, bytes, status, "older", said)?, "{said}");
-    }
+fn limits(rt: HostRuntime) -> Result<(), Fail> {
+    let long = extract_of(rt.alloc(), &HEADER, &[0, 241_138_570], &[0, 0], &[1, 2])?;
+    let said = "error 6 EdgeTooLong way=10 run=0 piece=0 cm=268435456\n";
+    assert!(rt; ends(&rt, &long, 6, "older", said)?);
     Ok(())
 }
 

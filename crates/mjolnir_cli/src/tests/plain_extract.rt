@@ -1,4 +1,4 @@
-//! A small writer of plain extracts: the messages of osmformat.proto and fileformat.proto, field by field.
+//! A small writer of extracts: the messages of osmformat.proto and fileformat.proto, field by field.
 
 use std::alloc::{AllocError, Global};
 
@@ -75,7 +75,7 @@ fn way_group(alloc: Global, refs: &[i64]) -> Result<Vec<u8>, AllocError> {
 }
 
 /// A data triple of a raw block: the length of its header in four bytes, the BlobHeader, the Blob.
-fn data_triple(alloc: Global, block: &[u8]) -> Result<Vec<u8>, AllocError> {
+pub(super) fn data_triple(alloc: Global, block: &[u8]) -> Result<Vec<u8>, AllocError> {
     let mut blob = Vec::new(alloc);
     put_field(&mut blob, 0x0a, block)?;
     let mut header = Vec::new(alloc);

@@ -1,6 +1,10 @@
 -- What the frames say at each exit of the loop, and how one blob more keeps what is listed.
-use Rattle.std.proofs.Common.{arith, ◌≡◌, ◌+◌, ◌-◌, ◌≤◌, ℕ, Option, Some, ap, ◌∙◌, length}
+use Rattle.std.proofs.Common.{arith, ◌≡◌, ◌+◌, ◌-◌, ◌≤◌, ℕ, Option, Some, ap, ◌∙◌, length, sym, subst, false}
 use Rattle.std.specs.Option.{option_map}
+use Rattle.mjolnir_cli.specs.Failures.{cause_of, of_pbf}
+use Rattle.mjolnir_cli.specs.Listing.{ReadCount}
+use Rattle.mjolnir_cli.proofs.Causes.{met_frame, counted_frame, if_read_frame, closed_before}
+use Rattle.pbf_blobs.specs.Answers.{is_read}
 use Rattle.mjolnir_cli.proofs.SoFar.{listed_one, lists_all, stops}
 use Rattle.mjolnir_cli.proofs.blobs.list_blobs.Goals as goal
 
@@ -50,3 +54,19 @@ returns-in-Err-clause-refused g c = λ bytes input place.
     let before = c.loop-text.invariant in
     let answers = c.in-Err.ensures.bytes bytes (before.others.input ∙ input) (before.place place) in
     rw c.from.ensures (stops bytes c.loop-text.at _ c.in-Err.fault (before.listed bytes input place) answers)
+
+pub returns-in-Err-clause-met : goal.returns-in-Err-clause-met
+returns-in-Err-clause-met g c = rw c.from.ensures (met_frame c.in-Err.fault)
+
+pub returns-in-Err-clause-reads : goal.returns-in-Err-clause-reads
+returns-in-Err-clause-reads g c =
+    let reads = g.H.Host.read_faults in
+    rw c.from.ensures (subst (λ (before : ℕ). ReadCount before (reads c.next_blob.new.host) (cause_of (of_pbf c.in-Err.fault))) c.loop-text.invariant.reads
+    (counted_frame (reads c.loop-text.host) (reads c.next_blob.new.host) c.in-Err.fault c.in-Err.ensures.reads))
+
+pub returns-in-Err-clause-cause : goal.returns-in-Err-clause-cause
+returns-in-Err-clause-cause g c = λ willing.
+    let start = (g.H.Host.told c.args.host.now).is_open in
+    let before = (g.H.Host.told c.loop-text.host).is_open in
+    rw c.from.ensures (if_read_frame (start ≡ Some false) c.in-Err.fault
+    (closed_before (is_read c.in-Err.fault) start before c.loop-text.invariant.others.is_open (c.in-Err.ensures.cause (c.loop-text.invariant.willing willing))))

@@ -2,7 +2,7 @@
 use Rattle.std.proofs.Common.{inr, sym, ap, ◌∙◌}
 use Rattle.std.specs.Option.{option_map}
 use Rattle.mjolnir_cli.specs.Commands.{request_of}
-use Rattle.mjolnir_cli.proofs.OneAnswer.{answered, complete, refused_so, line_of_read}
+use Rattle.mjolnir_cli.proofs.OneAnswer.{answered, complete, ends_refused, refused_so, line_of_read}
 use Rattle.mjolnir_cli.proofs.Ends.{lists, no_files}
 use Rattle.mjolnir_cli.proofs.top.mjolnir.Goals as goal
 
@@ -25,6 +25,12 @@ pub returns-in-Err-clause-read_line : goal.returns-in-Err-clause-read_line
 returns-in-Err-clause-read_line g c = λ three.
     let told = g.H.Host.told in
     line_of_read c.in-Err.failure _ (told c.args.host.now) (told c.run.new.host) (told c.say_failure-in-Err.new.host) _ _ _ c.say_failure-in-Err.ensures.status c.say_failure-in-Err.ensures.line c.in-Err.ensures.others.said c.in-Err.ensures.says three
+
+pub returns-in-Err-clause-refused : goal.returns-in-Err-clause-refused
+returns-in-Err-clause-refused g c =
+    let told = g.H.Host.told in
+    ends_refused _ (told c.args.host.now) (request_of c.in-Some.command) c.in-Err.failure _ (told c.run.new.host) (told c.say_failure-in-Err.new.host) _ _ _ (sym c.asked.ensures ∙ ap (option_map request_of) c.in-Some.is) c.in-Err.ensures.refused
+    c.say_failure-in-Err.ensures.status c.say_failure-in-Err.ensures.line c.in-Err.ensures.others.said c.in-Err.ensures.says
 
 pub returns-in-Err-clause-refused_only : goal.returns-in-Err-clause-refused_only
 returns-in-Err-clause-refused_only g c = λ request bytes other asks refused unread.

@@ -1,0 +1,9 @@
+-- No node so far counts.
+use Rattle.std.proofs.Common.{◌≡◌, drop}
+use Rattle.std.specs.Prelude.{find}
+use Rattle.mjolnir_cli.specs.Unbuilt.{has_tags}
+use Rattle.mjolnir_cli.proofs.unbuilt.first_node.Given as goal
+
+abbrev pub invariant-loop-node : goal.invariant-loop-node
+invariant-loop-node l =
+    find (λ node. has_tags node.tags) (drop l.node-index l.nodes) ≡ find (λ node. has_tags node.tags) l.nodes

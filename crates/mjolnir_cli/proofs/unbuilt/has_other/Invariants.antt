@@ -1,0 +1,10 @@
+-- No tag so far counts.
+use Rattle.std.proofs.Common.{◌≡◌, drop}
+use Rattle.std.specs.Prelude.{not}
+use Rattle.std.specs.List.{list_any}
+use Rattle.mjolnir_cli.specs.Unbuilt.{is_residential}
+use Rattle.mjolnir_cli.proofs.unbuilt.has_other.Given as goal
+
+abbrev pub invariant-loop-tag : goal.invariant-loop-tag
+invariant-loop-tag l =
+    list_any (λ tag. not (is_residential tag)) (drop l.tag-index l.tags) ≡ list_any (λ tag. not (is_residential tag)) l.tags
