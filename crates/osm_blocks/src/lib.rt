@@ -16,4 +16,6 @@ pub use law::reading_law;
 pub use read::read_extract;
 
 #[cfg(test)]
+mod spellings;
+#[cfg(test)]
 mod tests;
