@@ -1,5 +1,5 @@
 -- tries of a turn one after the other, and what is read under it
-use Rattle.std.proofs.Common.{◌≡◌, ℕ, zero, suc, ◌+◌, ◌-◌, ◌<◌, ◌≤◌, Bool, true, false, List, [], ◌∷◌, ◌++◌, length, length-append, map, refl, ap, sym, ◌∙◌, subst, arith}
+use Rattle.std.proofs.Common.{◌≡◌, ℕ, ◌+◌, ◌-◌, ◌<◌, ◌≤◌, Bool, true, false, List, [], ◌∷◌, ◌++◌, length, length-append, map, refl, ap, sym, ◌∙◌, subst, arith}
 use Rattle.std.proofs.lemmas.List.{append-nil, append_assoc}
 use Rattle.std.proofs.lemmas.List.Elements.{All-nil, All-push}
 use Rattle.std.proofs.Math.ListN.{get_elem?}
@@ -16,7 +16,7 @@ use Rattle.tile_table.specs.Views.{tiles_by, with_no_hand}
 use Rattle.tile_table.specs.Calls.{TurnHad, TurnMissed}
 use Rattle.tile_table.specs.Seats.{view, seat_name, turn_place, turn_tile, turn_marked}
 use Rattle.phase_run.specs.Tries.{GainedTries}
-use Rattle.phase_run.specs.Looks.{Unchanged, TurnGot, TriedInVain, Looked, Shown}
+use Rattle.phase_run.specs.Looks.{Unchanged, TurnGot, Looked, Shown}
 use Rattle.phase_run.specs.Stays.{unchanged-same, unchanged-on}
 
 -- no try yet

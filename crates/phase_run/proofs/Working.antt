@@ -8,7 +8,7 @@ use Rattle.tile_table.specs.declared.view.Hand.TheVariants.{Empty}
 use Rattle.tile_table.specs.declared.seat.Seat.{Seat}
 use Rattle.tile_table.specs.declared.seat.Closed.{Closed}
 use Rattle.tile_table.specs.declared.table.TileTable.{TileTable}
-use Rattle.tile_table.specs.Counts.{bit, same, times, pairs}
+use Rattle.tile_table.specs.Counts.{same, times, pairs}
 use Rattle.tile_table.specs.Views.{opening_view, tiles_by, with_claim, with_seen, with_mark, with_no_hand, lower, upper, joined}
 use Rattle.tile_table.specs.Calls.{ClosedBy}
 use Rattle.tile_table.specs.Seats.{view, seat_name, IsAt}

@@ -6,9 +6,8 @@ use Rattle.tile_table.specs.declared.view.Hand.{Hand}
 use Rattle.tile_table.specs.declared.view.Hand.TheVariants.{Empty, Holds}
 use Rattle.tile_table.specs.declared.seat.Seat.{Seat}
 use Rattle.tile_table.specs.declared.seat.Turn.{Turn}
-use Rattle.tile_table.specs.declared.table.TileTable.{TileTable}
 use Rattle.tile_table.specs.Counts.{times, pairs}
-use Rattle.tile_table.specs.Seats.{view, seat_name, IsAt, turn_place, turn_marked, HasTurn}
+use Rattle.tile_table.specs.Seats.{view, seat_name, turn_place, turn_marked, HasTurn}
 use Rattle.phase_run.specs.Tries.{GainedTries}
 
 -- whether no turn is in hand

@@ -1,11 +1,11 @@
 //! The readable parts of a table's tiles, as the worker of a seat reads them.
 
-ghost use Rattle.std.specs.Prelude.{◌≡◌, ℕ, ◌<◌, ◌≤◌, List, length, map, true, IfOk, refl};
+ghost use Rattle.std.specs.Prelude.{◌≡◌, ◌<◌, ◌≤◌, List, length, map, true, IfOk, refl};
 ghost use Rattle.std.proofs.Common.{◌∙◌, ap};
 ghost use Rattle.tile_machine.specs.At.{At};
 ghost use Rattle.tile_machine.specs.Late.{IfLate};
 ghost use Rattle.tile_table.specs.declared.view.Hand.{Hand};
-ghost use Rattle.tile_table.specs.Seats.{view, seat_name, table_name, IsAt};
+ghost use Rattle.tile_table.specs.Seats.{view, IsAt};
 ghost use Rattle.phase_run.specs.Looks.{is_empty, Looked, TriedInVain, Shown};
 ghost use Rattle.phase_run.specs.Tries.{IfLateAt};
 

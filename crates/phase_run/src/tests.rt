@@ -131,15 +131,19 @@ fn two_tiles_at_once(rt: HostRuntime) -> Result<(), Fail> {
     Ok(())
 }
 
-/// The worker that claims first is held until another has finished a tile.
+/// The worker that claims first is held until another has finished a tile. The gate is told of no other phase and no other tile.
 #[test]
 fn one_worker_is_held(rt: HostRuntime) -> Result<(), Fail> {
-    let gate = HoldsFirst::new();
+    let gate = HoldsFirst::new(1, 3);
     let sums = totals(&rt, rt.alloc(), 2, &gate)?;
     assert_eq!(rt; sums.as_slice(), [6, 6, 6].as_slice());
     assert!(rt;
         gate.has_held() && !gate.has_missed(),
         "no other worker finished a tile"
+    );
+    assert!(rt;
+        !gate.was_misled(),
+        "the gate was told of another phase or tile"
     );
     Ok(())
 }

@@ -4,7 +4,7 @@ ghost use Rattle.std.specs.Prelude.{◌≡◌, ℕ, ◌<◌, length, true, IfOk}
 ghost use Rattle.tile_machine.specs.At.{At};
 ghost use Rattle.tile_table.specs.declared.view.Hand.{Hand};
 ghost use Rattle.tile_table.specs.Counts.{times, pairs};
-ghost use Rattle.tile_table.specs.Seats.{view, seat_name, IsAt};
+ghost use Rattle.tile_table.specs.Seats.{view, IsAt};
 ghost use Rattle.phase_run.specs.Looks.{Looked};
 ghost use Rattle.phase_run.specs.Workers.{Ready, Worked, Visited, Later};
 

@@ -18,17 +18,24 @@ pub fn is_set_soon(flag: &AtomicBool) -> bool {
 /// Holds the worker that claims first, until another has finished a tile.
 #[derive(Drop)]
 pub struct HoldsFirst {
+    phase: u8,
+    tiles: u64,
     held: AtomicU64,
     finished: AtomicBool,
     missed: AtomicBool,
+    misled: AtomicBool,
 }
 
 impl HoldsFirst {
-    pub fn new() -> HoldsFirst {
+    /// A gate for the phase of this number, over this many tiles.
+    pub fn new(phase: u8, tiles: u64) -> HoldsFirst {
         HoldsFirst {
+            phase,
+            tiles,
             held: AtomicU64::new(NOBODY),
             finished: AtomicBool::new(false),
             missed: AtomicBool::new(false),
+            misled: AtomicBool::new(false),
         }
     }
 
@@ -40,6 +47,17 @@ impl HoldsFirst {
     /// Whether it was let go with no tile finished by another.
     pub fn has_missed(&self) -> bool {
         self.missed.load(Ordering::SeqCst)
+    }
+
+    /// Whether it was told of another phase, or of a tile that isn't there.
+    pub fn was_misled(&self) -> bool {
+        self.misled.load(Ordering::SeqCst)
+    }
+
+    fn look_at(&self, phase: u8, tile: u64) {
+        if phase != self.phase || self.tiles <= tile {
+            self.misled.store(true, Ordering::SeqCst);
+        }
     }
 
     fn hold_if_first(&self, worker: u64) {
@@ -55,8 +73,12 @@ impl HoldsFirst {
 impl Gate for HoldsFirst {
     fn at(&self, worker: u64, moment: Moment) {
         match moment {
-            Moment::Claimed { phase: _, tile: _ } => self.hold_if_first(worker),
-            Moment::Finished { phase: _, tile: _ } => {
+            Moment::Claimed { phase, tile } => {
+                self.look_at(phase, tile);
+                self.hold_if_first(worker);
+            }
+            Moment::Finished { phase, tile } => {
+                self.look_at(phase, tile);
                 if self.held.load(Ordering::SeqCst) != worker {
                     self.finished.store(true, Ordering::SeqCst);
                 }

@@ -1,4 +1,3 @@
-use Rattle.std.proofs.Common.{◌≡◌}
 use Rattle.phase_run.specs.Rest.{ByFlags}
 use Rattle.phase_run.proofs.Finishing.{AllBefore}
 use Rattle.phase_run.proofs.rest.finish_rest.Given as goal

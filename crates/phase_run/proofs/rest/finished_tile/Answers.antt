@@ -1,4 +1,4 @@
-use Rattle.std.proofs.Common.{◌≡◌, sym, ◌∙◌, subst}
+use Rattle.std.proofs.Common.{sym, ◌∙◌, subst}
 use Rattle.tile_machine.specs.At.{At}
 use Rattle.tile_machine.proofs.Places.{at_read}
 use Rattle.phase_run.proofs.rest.finished_tile.Goals as goal

@@ -1,4 +1,4 @@
-use Rattle.std.proofs.Common.{◌≡◌, ap, ◌∙◌}
+use Rattle.std.proofs.Common.{ap, ◌∙◌}
 use Rattle.tile_table.specs.Seats.{view}
 use Rattle.phase_run.proofs.Looking.{reads-part}
 use Rattle.phase_run.proofs.seat_parts.part_of.Goals as goal

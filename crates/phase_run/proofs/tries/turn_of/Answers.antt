@@ -1,4 +1,4 @@
-use Rattle.std.proofs.Common.{◌≡◌, ◌∙◌, refl}
+use Rattle.std.proofs.Common.{◌∙◌, refl}
 use Rattle.tile_table.specs.Seats.{view}
 use Rattle.phase_run.proofs.Looking.{begins-trying, tries-again}
 use Rattle.phase_run.proofs.tries.turn_of.Goals as goal

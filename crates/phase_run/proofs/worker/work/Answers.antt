@@ -1,4 +1,4 @@
-use Rattle.std.proofs.Common.{◌≡◌, length, ap, arith}
+use Rattle.std.proofs.Common.{length, ap, arith}
 use Rattle.tile_table.specs.Seats.{view}
 use Rattle.phase_run.proofs.Working.{ready-on, worked-same, worked-on, visits-more}
 use Rattle.phase_run.proofs.worker.work.Goals as goal

@@ -1,4 +1,4 @@
-use Rattle.std.proofs.Common.{ℕ, ◌+◌, ◌-◌, ◌*◌}
+use Rattle.std.proofs.Common.{◌+◌, ◌-◌, ◌*◌}
 use Rattle.phase_run.proofs.workers.+runs.Given as goal
 
 abbrev pub decreases-run_seats : goal.decreases-run_seats
