@@ -16,7 +16,7 @@ HasItsWalks x =
     (mode : ℕ) → IsMode mode → (a b : ℤ) → is_junction x a ≡ true → is_junction x b ≡ true → (total : ℕ)
     → RoadWalk x 79 mode a b total ↔ PlainWalk (piece_rows x) a b total
 
--- The bytes are a plain extract, the file of this path is the list of its junctions and pieces, and the pieces
+-- The bytes are an extract, the file of this path is the list of its junctions and pieces, and the pieces
 -- have exactly the walks of its roads.
 pub record ListsRoads (path bytes : List ℕ) (told : Told) : Type 0 where
   pub extract : Extract
