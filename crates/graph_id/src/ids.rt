@@ -21,8 +21,9 @@ impl fmt::Display for BadId {
 
 impl Error for BadId {}
 
-/// The number of a node or a directed edge: its hierarchy level, its tile on that level and its id
-/// within the tile. Contracts see it as its value, which is below 0x3fffffffffff.
+/// The number of a node or a directed edge, as in Valhalla's graph: its hierarchy level in 3 bits, its tile on
+/// that level in 22, and its id within the tile in 21, the level lowest. Contracts see it as its value, which is
+/// below 0x3fffffffffff.
 #[derive(Clone, Copy, Debug, PartialEq, Eq, PartialOrd, Ord, Hash)]
 pub struct GraphId {
     value: u64,

@@ -7,7 +7,7 @@ Follows Next e [] = ⊤
 Follows Next e (f ∷ fs) = Next e f
 
 -- a list leads from node a to node b: each thing is one, the first starts at a, each next one starts
--- where the one before it ends and may come after it, and the last ends at b; no thing leads from a to a
+-- where the one before it ends and may come after it, and the last ends at b; the empty list leads from a to a
 abbrev pub Leads : {N E : Type 0} → (E → Type 0) → (E → N) → (E → N) → (E → E → Type 0) → N → List E → N → Type 0
 Leads Is start end Next a [] b = a ≡ b
 Leads Is start end Next a (e ∷ es) b = Is e × (start e ≡ a) × Follows Next e es × Leads Is start end Next (end e) es b

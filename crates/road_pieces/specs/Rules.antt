@@ -1,6 +1,6 @@
--- What tags say of roads. Extracts have no other tag than `highway=residential` on ways today, so that
--- each road is open to each mode, no node is closed, and no turn is forbidden. Where more is read, the
--- definitions here say more, and what is built on them stays.
+-- What tags say of roads. Today a road is a way with `highway=residential`, each road is open to each mode,
+-- no node is closed, and no turn is forbidden; an extract with another kept tag isn't built. Where more is
+-- built, the definitions here say more, and what stands on them stays.
 use Rattle.std.specs.Prelude.{⊤, ℕ, ℤ, Bool, false, List, [], not, codes}
 use Rattle.std.specs.Option.{option_map_or}
 use Rattle.std.specs.Str.{bytes_eq}

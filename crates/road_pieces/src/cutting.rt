@@ -28,7 +28,8 @@ const LONGEST: u64 = 268_435_455;
 
 /// The roads of an extract: its junctions in order of OSM id, and the pieces between them in order of key.
 ///
-/// More than 4,000,000 pieces are refused, or else the first piece that is longer than 268,435,455 cm.
+/// More than 4,000,000 pieces are refused, or else the first piece that is longer than 268,435,455 cm. Want of
+/// memory is answered as `OutOfMemory`.
 pub fn cut(alloc: Global, extract: &Extract) -> Result<Roads, CutFault>
     ensures junctions { IfOk result (λ roads. roads.junctions ≡ junction_rows extract.now) }
     ensures pieces { IfOk result (λ roads. roads.pieces ≡ piece_rows extract.now) }

@@ -4,7 +4,7 @@ use std::alloc::AllocError;
 use std::error::Error;
 use std::fmt;
 
-/// The causes, first those that stand first.
+/// Why roads are refused. Where two causes stand, the one further up is answered.
 #[derive(Clone, Copy, Debug, PartialEq, Eq)]
 pub enum CutFault {
     /// More than 4,000,000 pieces.
@@ -18,6 +18,7 @@ pub enum CutFault {
         piece: u32,
         cm: u64,
     },
+    /// There was no memory. It may be answered in place of the others.
     OutOfMemory,
 }
 

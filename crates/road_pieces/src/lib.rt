@@ -24,6 +24,8 @@ mod tests;
 
 pub use cutting::cut;
 pub use faults::CutFault;
+pub use fixed_geo::Shape;
 pub use laws::{list_agrees, turns_agree, walks_agree};
+pub use osm_model::PieceKey;
 pub use rows::{Junction, Junctions, Piece, Pieces, Roads};
 pub use steps::Step;

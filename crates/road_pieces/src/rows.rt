@@ -3,8 +3,8 @@
 use fixed_geo::{Point, Shape};
 use osm_model::{Names, PieceKey, Seq};
 
-/// A node where roads meet, end or may be closed. `access` has a bit for each mode that may pass:
-/// auto 1, pedestrian 2, bicycle 4, truck 8, bus 64.
+/// A node where roads meet, end or may be closed. `at` is in units of 1e-7 degree. `access` has a bit for
+/// each mode that may pass, as Valhalla numbers them: auto 1, pedestrian 2, bicycle 4, truck 8, bus 64.
 #[derive(Clone, Copy, Debug, PartialEq, Eq)]
 pub struct Junction {
     pub osm: i64,

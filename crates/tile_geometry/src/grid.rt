@@ -9,7 +9,7 @@ use fixed_geo::Point;
 /// How far the poles are from the equator, in units.
 const QUARTER: i64 = 900_000_000;
 
-/// The number of the tile of a place on a level: row and column are its distances from the south
+/// The number of the tile of a place on a level, in Valhalla's grid: row and column are its distances from the south
 /// pole and from the meridian of -180 degrees by the side of a tile, rounded down. Latitude 90 goes to
 /// the last row and longitude 180 to the last column. The number is below the level's count.
 #[tactic(auto, unfolding(crate::specs::Grid::grid_tile))]

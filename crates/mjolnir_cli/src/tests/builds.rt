@@ -1,6 +1,6 @@
 //! The command `build` over a host in memory: the list that it puts, its refusals and its faults.
 
-use super::plain_extract::extract_of;
+use super::plain_extract::{extract_of, extract_with_way};
 use super::{HEADER, front, status_of};
 use host_port::{Bytes, MemHost, Text};
 use std::alloc::{AllocError, Global};
@@ -139,12 +139,35 @@ fn lists(rt: HostRuntime) -> Result<(), Fail> {
     Ok(())
 }
 
-// Roads that pass a limit put nothing, and the older list stays.
+// A piece that is too long puts nothing, and the older list stays.
 #[test]
-fn limits(rt: HostRuntime) -> Result<(), Fail> {
-    let long = extract_of(rt.alloc(), &HEADER, &[0, 241_138_570], &[0, 0], &[1, 2])?;
-    let said = "error 6 EdgeTooLong way=10 run=0 piece=0 cm=268435456\n";
+fn longest_piece(rt: HostRuntime) -> Result<(), Fail> {
+    let long = extract_with_way(
+        rt.alloc(),
+        &HEADER,
+        &[0, 241_138_570],
+        &[0, 0],
+        1,
+        &[1, 2],
+    )?;
+    let said = "error 6 EdgeTooLong way=1 run=0 piece=0 cm=268435456\n";
     assert!(rt; ends(&rt, &long, 6, "older", said)?);
+    Ok(())
+}
+
+// 4,000,001 pieces are too many, which is said before that the first of them is too long: a way that goes to and fro
+// between nodes 1 and 2, and is a junction at each place.
+#[test]
+fn most_pieces(rt: HostRuntime) -> Result<(), Fail> {
+    let mut refs = Vec::new(rt.alloc());
+    for place in 0..4_000_002i64 {
+        refs.push(place % 2 + 1)?;
+    }
+    let many = extract_of(rt.alloc(), &HEADER, &[0, 241_138_570], &[0, 0], &refs)?;
+    let mut host = host_of(rt.alloc(), &many, &[], 65_536)?;
+    assert_eq!(rt; build_in(&rt, &mut host)?, 6);
+    assert_eq!(rt; host.said.as_slice(), b"error 6 Pieces count=4000001\n".as_slice());
+    assert!(rt; holds(&host, b"older", 0));
     Ok(())
 }
 

@@ -65,9 +65,9 @@ fn node_group(alloc: Global, lats: &[i64], lons: &[i64]) -> Result<Vec<u8>, Allo
     Ok(group)
 }
 
-/// The group of residential way 10 with these refs: its id, keys, values and refs, in field 3.
-fn way_group(alloc: Global, refs: &[i64]) -> Result<Vec<u8>, AllocError> {
-    let mut way = Vec::from_slice(alloc, &[0x08, 0x0a, 0x12, 0x01, 0x01, 0x1a, 0x01, 0x02])?;
+/// The group of a residential way with these refs: its id, which is below 128, keys, values and refs, in field 3.
+fn way_group(alloc: Global, id: u8, refs: &[i64]) -> Result<Vec<u8>, AllocError> {
+    let mut way = Vec::from_slice(alloc, &[0x08, id, 0x12, 0x01, 0x01, 0x1a, 0x01, 0x02])?;
     put_field(&mut way, 0x42, &deltas(alloc, refs)?)?;
     let mut group = Vec::new(alloc);
     put_field(&mut group, 0x1a, &way)?;
@@ -97,9 +97,21 @@ pub(super) fn extract_of(
     lons: &[i64],
     refs: &[i64],
 ) -> Result<Vec<u8>, AllocError> {
+    extract_with_way(alloc, header, lats, lons, 10, refs)
+}
+
+/// The same, with another id of the way, which is below 128.
+pub(super) fn extract_with_way(
+    alloc: Global,
+    header: &[u8],
+    lats: &[i64],
+    lons: &[i64],
+    id: u8,
+    refs: &[i64],
+) -> Result<Vec<u8>, AllocError> {
     let mut block = Vec::from_slice(alloc, &STRINGS)?;
     put_field(&mut block, 0x12, &node_group(alloc, lats, lons)?)?;
-    put_field(&mut block, 0x12, &way_group(alloc, refs)?)?;
+    put_field(&mut block, 0x12, &way_group(alloc, id, refs)?)?;
     let mut bytes = Vec::from_slice(alloc, header)?;
     bytes.extend_from_slice(&data_triple(alloc, &block)?)?;
     Ok(bytes)
