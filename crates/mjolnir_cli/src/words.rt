@@ -11,7 +11,7 @@ ghost use Rattle.mjolnir_cli.specs.Commands.{request_of};
 pub enum Command<'a> {
     /// `blobs PATH`: list the blobs of the file of that path.
     Blobs { path: &'a str },
-    /// `build --input PATH --output DIR`: build what is made of the extract of that path, in that folder.
+    /// `build --input PATH --output DIR`: put what is built of the extract of that path into that folder.
     Build { input: &'a str, output: &'a str },
 }
 

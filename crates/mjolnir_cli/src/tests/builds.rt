@@ -142,14 +142,7 @@ fn lists(rt: HostRuntime) -> Result<(), Fail> {
 // A piece that is too long puts nothing, and the older list stays.
 #[test]
 fn longest_piece(rt: HostRuntime) -> Result<(), Fail> {
-    let long = extract_with_way(
-        rt.alloc(),
-        &HEADER,
-        &[0, 241_138_570],
-        &[0, 0],
-        1,
-        &[1, 2],
-    )?;
+    let long = extract_with_way(rt.alloc(), &HEADER, &[0, 241_138_570], &[0, 0], 1, &[1, 2])?;
     let said = "error 6 EdgeTooLong way=1 run=0 piece=0 cm=268435456\n";
     assert!(rt; ends(&rt, &long, 6, "older", said)?);
     Ok(())
@@ -166,7 +159,10 @@ fn most_pieces(rt: HostRuntime) -> Result<(), Fail> {
     let many = extract_of(rt.alloc(), &HEADER, &[0, 241_138_570], &[0, 0], &refs)?;
     let mut host = host_of(rt.alloc(), &many, &[], 65_536)?;
     assert_eq!(rt; build_in(&rt, &mut host)?, 6);
-    assert_eq!(rt; host.said.as_slice(), b"error 6 Pieces count=4000001\n".as_slice());
+    assert_eq!(rt;
+        host.said.as_slice(),
+        b"error 6 Pieces count=4000001\n".as_slice()
+    );
     assert!(rt; holds(&host, b"older", 0));
     Ok(())
 }
