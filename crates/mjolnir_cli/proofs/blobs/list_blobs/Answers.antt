@@ -1,5 +1,5 @@
 -- What the frames say at each exit of the loop, and how one blob more keeps what is listed.
-use Rattle.std.proofs.Common.{arith, ◌≡◌, ◌+◌, ◌-◌, ◌≤◌, ℕ, Option, Some, ap, ◌∙◌, length, sym, subst, false}
+use Rattle.std.proofs.Common.{arith, ◌≡◌, ◌+◌, ◌-◌, ◌≤◌, ℕ, Option, Some, ap, ◌∙◌, length, subst, false}
 use Rattle.std.specs.Option.{option_map}
 use Rattle.mjolnir_cli.specs.Failures.{cause_of, of_pbf}
 use Rattle.mjolnir_cli.specs.Listing.{ReadCount}
