@@ -1,7 +1,5 @@
 pub mod Causes
 pub mod SoFar
-pub mod Ordered
-pub mod Readings
 pub mod SameRoads
 pub mod OneAnswer
 pub mod OneEnd

@@ -1,14 +1,15 @@
 -- An input has no two answers, no two refusals, and no answer beside a refusal.
-use Rattle.std.proofs.Common.{◌≡◌, ℕ, ℤ, List, [], ◌∷◌, Option, Some, Result, Ok, Err, refl, sym, ap, ◌∙◌}
+use Rattle.std.proofs.Common.{◌≡◌, ℕ, ℤ, List, [], ◌∷◌, Option, Some, None, Result, Ok, Err, refl, sym, ap, ◌∙◌}
 use Rattle.pbf_blobs.specs.declared.blob.Blob.{Blob}
 use Rattle.pbf_blobs.specs.declared.fault.PbfFault.{PbfFault}
-use Rattle.pbf_blobs.specs.Next.{Outcome, Gives, Fails}
-use Rattle.pbf_blobs.specs.Frames.{Frames}
+use Rattle.pbf_blobs.specs.Next.{Outcome, Ends, Fails}
+use Rattle.pbf_blobs.specs.Frames.{Frames, IsLast}
 use Rattle.osm_model.specs.declared.relations.MemberKind.{MemberKind}
 use Rattle.osm_model.specs.declared.extract.Extract.{Extract}
+use Rattle.osm_objects.specs.Objects.{Objects}
 use Rattle.osm_blocks.specs.declared.fault.ExtractFault.{ExtractFault}
 use Rattle.osm_blocks.specs.Faults.{framed_as}
-use Rattle.osm_blocks.specs.Extracts.{Refuses, Refused, IsReadOneWay, lists_of}
+use Rattle.osm_blocks.specs.Extracts.{Refuses, Reading, Extracted, Refused, IsReading, lists_of}
 use Rattle.road_pieces.specs.declared.faults.CutFault.{CutFault}
 use Rattle.road_pieces.specs.declared.faults.CutFault.TheVariants as cut_faults
 use Rattle.road_pieces.specs.Rows.{junction_rows, piece_rows, refusal}
@@ -18,133 +19,127 @@ use Rattle.mjolnir_cli.specs.declared.failure.Failure.TheVariants as failures
 use Rattle.mjolnir_cli.specs.declared.failure.Failure.TheVariants.{Words, Read, Put, NotBuilt, Pieces, EdgeTooLong, OutOfMemory}
 use Rattle.mjolnir_cli.specs.Words.{Request, Blobs, Build, list_path}
 use Rattle.mjolnir_cli.specs.Failures.{of_cut}
-use Rattle.mjolnir_cli.specs.Unbuilt.{unbuilt_among}
+use Rattle.mjolnir_cli.specs.Unbuilt.{unbuilt, unbuilt_among}
 use Rattle.mjolnir_cli.specs.PlainList.{plain_list, list_of}
-use Rattle.mjolnir_cli.specs.Answers.{StopsAt, blob_lines, IsListed, Spells, IsBuilt, HasUnbuilt, PassesLimit, IsNotBuilt, IsAnswer, IsRefused, EndsSo}
-use Rattle.mjolnir_cli.proofs.Readings.{apart, same_blobs, same_lists, not_refused}
+use Rattle.mjolnir_cli.specs.Answers.{blob_lines, Spells, EndsSo}
 use Rattle.mjolnir_cli.proofs.SameRoads.{same_pieces, same_junctions}
-use Rattle.mjolnir_cli.proofs.OneAnswer.{not_both, not_object}
 
-same_answer : (a b : Answer) → a.files ≡ b.files → a.text ≡ b.text → a ≡ b
-same_answer a b files text =
-    ap (λ (fs : List (List ℕ × List ℕ)). record { files = fs; text = a.text }) files ∙ ap (λ (t : List ℕ). record { files = b.files; text = t }) text
+-- ---- what the bytes are, in one way
+
+-- the frames of the bytes have one list of blobs and one last outcome
+abbrev FramesOneWay : List ℕ → Type 0
+FramesOneWay bytes =
+    (blobs others : List Blob) (outcome other : Outcome) → IsLast outcome → IsLast other → Frames bytes 0 blobs outcome → Frames bytes 0 others other → (others ≡ blobs) × (other ≡ outcome)
+
+-- the bytes have one reading
+abbrev ReadsOneWay : List ℕ → Type 0
+ReadsOneWay bytes = (one other : Reading) → IsReading bytes one → IsReading bytes other → one ≡ other
+
+-- an answer with these parts
+answer_is : (answer : Answer) (files : List (List ℕ × List ℕ)) (text : List ℕ) → answer.files ≡ files → answer.text ≡ text → answer ≡ record { files = files; text = text }
+answer_is answer files text files_are text_is =
+    ap (λ (fs : List (List ℕ × List ℕ)). record { files = fs; text = answer.text }) files_are ∙ ap (λ (t : List ℕ). record { files = files; text = t }) text_is
 
 -- ---- blobs
 
-listed_once : (bytes : List ℕ) (a b : Answer) → IsListed bytes a → IsListed bytes b → a ≡ b
-listed_once bytes a b one two =
-    same_answer a b (one.unput ∙ sym two.unput)
-    (one.lists.2 ∙ (ap blob_lines (same_blobs bytes 0 one.lists.0 two.lists.0 one.lists.1 two.lists.1) ∙ sym two.lists.2))
+-- the answer that lists these blobs
+abbrev listing : List Blob → Answer
+listing blobs = record { files = []; text = blob_lines blobs }
 
-framing_is : (f g : PbfFault) → ◌≡◌ {A = Outcome} (Fails f) (Fails g) → f ≡ g
-framing_is f g e = cc
+-- a listing ends by the last outcome of the frames
+data ListsSo (bytes : List ℕ) (end : Result Answer Failure) : Type 0 where
+  whole : (blobs : List Blob) → Frames bytes 0 blobs Ends → end ≡ Ok (listing blobs) → ListsSo bytes end
+  stopped : (blobs : List Blob) (fault : PbfFault) → Frames bytes 0 blobs (Fails fault) → end ≡ Err (failures.Extract (framed_as fault)) → ListsSo bytes end
 
-fails_gives : (fault : PbfFault) (blob : Blob) → Fails fault ≡ Gives blob → ⊥
-fails_gives fault blob e = cc
+lists_so : (path bytes : List ℕ) (end : Result Answer Failure) → EndsSo (Blobs path) bytes end → ListsSo bytes end
+lists_so path bytes (Ok answer) is = whole is.lists.0 is.lists.1 (ap Ok (answer_is answer [] (blob_lines is.lists.0) is.unput is.lists.2))
+lists_so path bytes (Err (failures.Extract fault)) is = stopped is.0 is.1 is.2 (ap (λ f. Err (failures.Extract f)) is.3)
+lists_so path bytes (Err Words) is = absurd is
+lists_so path bytes (Err Read) is = absurd is
+lists_so path bytes (Err Put) is = absurd is
+lists_so path bytes (Err (NotBuilt kind id)) is = absurd is
+lists_so path bytes (Err (Pieces count)) is = absurd is
+lists_so path bytes (Err (EdgeTooLong way run piece cm)) is = absurd is
+lists_so path bytes (Err OutOfMemory) is = absurd is
 
--- where the frames fail
-record Stops (bytes : List ℕ) (failure : Failure) : Type 0 where
-  fault : PbfFault
-  blobs : List Blob
-  frames : Frames bytes 0 blobs (Fails fault)
-  is : failure ≡ failures.Extract (framed_as fault)
+ends_fails : (fault : PbfFault) → Ends ≡ Fails fault → ⊥
+ends_fails fault e = cc
 
-stops : (bytes : List ℕ) (failure : Failure) → StopsAt bytes failure → Stops bytes failure
-stops bytes Words is = absurd is
-stops bytes Read is = absurd is
-stops bytes Put is = absurd is
-stops bytes (failures.Extract fault) is = record { fault = is.1; blobs = is.0; frames = is.2; is = ap (λ f. failures.Extract f) is.3 }
-stops bytes (NotBuilt kind id) is = absurd is
-stops bytes (Pieces count) is = absurd is
-stops bytes (EdgeTooLong way run piece cm) is = absurd is
-stops bytes OutOfMemory is = absurd is
+fault_is : (f g : PbfFault) → ◌≡◌ {A = Outcome} (Fails f) (Fails g) → f ≡ g
+fault_is f g e = cc
 
-stopped_once : (bytes : List ℕ) (f g : Failure) → StopsAt bytes f → StopsAt bytes g → f ≡ g
-stopped_once bytes f g one two =
-    let a = stops bytes f one in
-    let b = stops bytes g two in
-    let fault = framing_is a.fault b.fault (apart bytes 0 a.blobs b.blobs (Fails a.fault) (Fails b.fault) a.frames b.frames (fails_gives a.fault) (fails_gives b.fault)) in
-    a.is ∙ (ap (λ f. failures.Extract (framed_as f)) fault ∙ sym b.is)
+listed_once : (bytes : List ℕ) (one other : Result Answer Failure) → FramesOneWay bytes → ListsSo bytes one → ListsSo bytes other → one ≡ other
+listed_once bytes one other way (whole a f is) (whole b g also) = is ∙ ap (λ blobs. Ok (listing blobs)) (way b a Ends Ends tt tt g f).0 ∙ sym also
+listed_once bytes one other way (whole a f is) (stopped b fault g also) = absurd (ends_fails fault (way b a (Fails fault) Ends tt tt g f).1)
+listed_once bytes one other way (stopped a fault f is) (whole b g also) = absurd (ends_fails fault (way a b (Fails fault) Ends tt tt f g).1)
+listed_once bytes one other way (stopped a fault f is) (stopped b more g also) =
+    is ∙ ap (λ x. Err (failures.Extract (framed_as x))) (fault_is fault more (way b a (Fails more) (Fails fault) tt tt g f).1) ∙ sym also
 
 -- ---- build
+
+-- the end for an extract: by the first object that isn't built, if there is one, and the limit that its roads pass
+abbrev end_by : Option (MemberKind × ℤ) → Option CutFault → List (List ℕ × List ℕ) → Result Answer Failure
+end_by (Some object) limit files = Err (NotBuilt object.0 object.1)
+end_by None (Some limit) files = Err (of_cut limit)
+end_by None None files = Ok (record { files = files; text = [] })
+
+abbrev end_of : List ℕ → Extract → Result Answer Failure
+end_of output x = end_by (unbuilt x) (refusal (piece_rows x)) ((list_path output, plain_list x) ∷ [])
 
 same_list : (x y : Extract) → lists_of x ≡ lists_of y → plain_list x ≡ plain_list y
 same_list x y same =
     ap (λ js. list_of js (piece_rows x)) (same_junctions x y same) ∙ ap (λ ps. list_of (junction_rows y) ps) (same_pieces x y same)
 
-built_once : (output bytes : List ℕ) (a b : Answer) → IsBuilt output bytes a → IsBuilt output bytes b → a ≡ b
-built_once output bytes a b one two =
-    let same = same_lists bytes (lists_of one.extract) (lists_of two.extract) one.spelled two.spelled in
-    same_answer a b (one.files ∙ (ap (λ list. (list_path output, list) ∷ []) (same_list one.extract two.extract same) ∙ sym two.files)) (one.silent ∙ sym two.silent)
+-- extracts of the same objects end in the same way
+same_end : (output : List ℕ) (x y : Extract) → lists_of x ≡ lists_of y → end_of output x ≡ end_of output y
+same_end output x y same =
+    ap (λ objects. end_by (unbuilt_among objects) (refusal (piece_rows x)) ((list_path output, plain_list x) ∷ [])) same
+    ∙ ap (λ pieces. end_by (unbuilt y) (refusal pieces) ((list_path output, plain_list x) ∷ [])) (same_pieces x y same)
+    ∙ ap (λ list. end_by (unbuilt y) (refusal (piece_rows y)) ((list_path output, list) ∷ [])) (same_list x y same)
 
--- what a failure is to the bytes: a fault of them; or an object or a limit of the extract that they are
-data Reason (bytes : List ℕ) (failure : Failure) : Type 0 where
-  by_fault : (fault : ExtractFault) → Refuses bytes fault → failure ≡ failures.Extract fault → Reason bytes failure
-  by_object : (kind : MemberKind) (id : ℤ) → HasUnbuilt bytes kind id → failure ≡ NotBuilt kind id → Reason bytes failure
-  by_limit : (fault : CutFault) → PassesLimit bytes fault → failure ≡ of_cut fault → Reason bytes failure
+end_is : (output : List ℕ) (x : Extract) (object : Option (MemberKind × ℤ)) (limit : Option CutFault) → unbuilt x ≡ object → refusal (piece_rows x) ≡ limit → end_of output x ≡ end_by object limit ((list_path output, plain_list x) ∷ [])
+end_is output x object limit first passed =
+    ap (λ o. end_by o (refusal (piece_rows x)) ((list_path output, plain_list x) ∷ [])) first
+    ∙ ap (λ l. end_by object l ((list_path output, plain_list x) ∷ [])) passed
 
-reason : (bytes : List ℕ) (failure : Failure) → IsNotBuilt bytes failure → Reason bytes failure
-reason bytes Words is = absurd is
-reason bytes Read is = absurd is
-reason bytes Put is = absurd is
-reason bytes (failures.Extract fault) is = by_fault fault is refl
-reason bytes (NotBuilt kind id) is = by_object kind id is refl
-reason bytes (Pieces count) is = by_limit (cut_faults.TooManyPieces count) is refl
-reason bytes (EdgeTooLong way run piece cm) is = by_limit (cut_faults.EdgeTooLong way run piece cm) is refl
-reason bytes OutOfMemory is = absurd is
+-- a build ends by the reading of the bytes
+data BuildsSo (output bytes : List ℕ) (end : Result Answer Failure) : Type 0 where
+  of_extract : (x : Extract) → Spells bytes x → end ≡ end_of output x → BuildsSo output bytes end
+  of_fault : (fault : ExtractFault) → Refuses bytes fault → end ≡ Err (failures.Extract fault) → BuildsSo output bytes end
+
+builds_so : (input output bytes : List ℕ) (end : Result Answer Failure) → EndsSo (Build input output) bytes end → BuildsSo output bytes end
+builds_so input output bytes (Ok answer) is =
+    of_extract is.extract is.spelled (ap Ok (answer_is answer ((list_path output, plain_list is.extract) ∷ []) [] is.files is.silent) ∙ sym (end_is output is.extract None None is.built is.within))
+builds_so input output bytes (Err (failures.Extract fault)) is = of_fault fault is refl
+builds_so input output bytes (Err (NotBuilt kind id)) is =
+    of_extract is.extract is.spelled (sym (end_is output is.extract (Some (kind, id)) (refusal (piece_rows is.extract)) is.first refl))
+builds_so input output bytes (Err (Pieces count)) is =
+    of_extract is.extract is.spelled (sym (end_is output is.extract None (Some (cut_faults.TooManyPieces count)) is.built is.passed))
+builds_so input output bytes (Err (EdgeTooLong way run piece cm)) is =
+    of_extract is.extract is.spelled (sym (end_is output is.extract None (Some (cut_faults.EdgeTooLong way run piece cm)) is.built is.passed))
+builds_so input output bytes (Err Words) is = absurd is
+builds_so input output bytes (Err Read) is = absurd is
+builds_so input output bytes (Err Put) is = absurd is
+builds_so input output bytes (Err OutOfMemory) is = absurd is
+
+lists_are : (a b : Objects) → Extracted a ≡ Extracted b → a ≡ b
+lists_are a b e = cc
 
 refused_is : (a b : ExtractFault) → Refused a ≡ Refused b → a ≡ b
 refused_is a b e = cc
 
-object_is : (a b : MemberKind × ℤ) → ◌≡◌ {A = Option (MemberKind × ℤ)} (Some a) (Some b) → a ≡ b
-object_is a b e = cc
+extracted_refused : (lists : Objects) (fault : ExtractFault) → Extracted lists ≡ Refused fault → ⊥
+extracted_refused lists fault e = cc
 
-limit_is : (a b : CutFault) → ◌≡◌ {A = Option CutFault} (Some a) (Some b) → a ≡ b
-limit_is a b e = cc
-
--- two extracts that the bytes spell have the same objects
-same_objects : (bytes : List ℕ) (x y : Extract) → Spells bytes x → Spells bytes y → lists_of x ≡ lists_of y
-same_objects bytes x y one two = same_lists bytes (lists_of x) (lists_of y) one two
-
-same_object : (bytes : List ℕ) (k l : MemberKind) (i j : ℤ) → HasUnbuilt bytes k i → HasUnbuilt bytes l j → NotBuilt k i ≡ NotBuilt l j
-same_object bytes k l i j one two =
-    ap (λ (o : MemberKind × ℤ). NotBuilt o.0 o.1)
-    (object_is (k, i) (l, j) (sym one.first ∙ (ap unbuilt_among (same_objects bytes one.extract two.extract one.spelled two.spelled) ∙ two.first)))
-
-same_limit : (bytes : List ℕ) (a b : CutFault) → PassesLimit bytes a → PassesLimit bytes b → a ≡ b
-same_limit bytes a b one two =
-    limit_is a b (sym one.passed ∙ (ap refusal (same_pieces one.extract two.extract (same_objects bytes one.extract two.extract one.spelled two.spelled)) ∙ two.passed))
-
-object_or_limit : (bytes : List ℕ) (kind : MemberKind) (id : ℤ) (fault : CutFault) → HasUnbuilt bytes kind id → PassesLimit bytes fault → ⊥
-object_or_limit bytes kind id fault has passes = not_object bytes passes.extract has.extract (kind, id) passes.spelled has.spelled passes.built has.first
-
-same_failure : (bytes : List ℕ) (f g : Failure) → IsReadOneWay bytes → Reason bytes f → Reason bytes g → f ≡ g
-same_failure bytes f g way (by_fault a so is) (by_fault b also isb) =
-    is ∙ (ap (λ x. failures.Extract x) (refused_is a b (way.only (Refused a) so ∙ sym (way.only (Refused b) also))) ∙ sym isb)
-same_failure bytes f g way (by_fault a so is) (by_object k i has isb) = absurd (not_refused bytes (lists_of has.extract) a has.spelled so)
-same_failure bytes f g way (by_fault a so is) (by_limit b passes isb) = absurd (not_refused bytes (lists_of passes.extract) a passes.spelled so)
-same_failure bytes f g way (by_object k i has is) (by_fault b also isb) = absurd (not_refused bytes (lists_of has.extract) b has.spelled also)
-same_failure bytes f g way (by_object k i has is) (by_object l j more isb) = is ∙ (same_object bytes k l i j has more ∙ sym isb)
-same_failure bytes f g way (by_object k i has is) (by_limit b passes isb) = absurd (object_or_limit bytes k i b has passes)
-same_failure bytes f g way (by_limit a passes is) (by_fault b also isb) = absurd (not_refused bytes (lists_of passes.extract) b passes.spelled also)
-same_failure bytes f g way (by_limit a passes is) (by_object k i has isb) = absurd (object_or_limit bytes k i a has passes)
-same_failure bytes f g way (by_limit a passes is) (by_limit b more isb) = is ∙ (ap of_cut (same_limit bytes a b passes more) ∙ sym isb)
-
-unbuilt_once : (bytes : List ℕ) (f g : Failure) → IsReadOneWay bytes → IsNotBuilt bytes f → IsNotBuilt bytes g → f ≡ g
-unbuilt_once bytes f g way one two = same_failure bytes f g way (reason bytes f one) (reason bytes g two)
+built_once : (output bytes : List ℕ) (one other : Result Answer Failure) → ReadsOneWay bytes → BuildsSo output bytes one → BuildsSo output bytes other → one ≡ other
+built_once output bytes one other way (of_extract x a is) (of_extract y b also) =
+    is ∙ same_end output x y (lists_are (lists_of x) (lists_of y) (way (Extracted (lists_of x)) (Extracted (lists_of y)) a b)) ∙ sym also
+built_once output bytes one other way (of_extract x a is) (of_fault fault b also) = absurd (extracted_refused (lists_of x) fault (way (Extracted (lists_of x)) (Refused fault) a b))
+built_once output bytes one other way (of_fault fault a is) (of_extract y b also) = absurd (extracted_refused (lists_of y) fault (way (Extracted (lists_of y)) (Refused fault) b a))
+built_once output bytes one other way (of_fault fault a is) (of_fault more b also) = is ∙ ap (λ f. Err (failures.Extract f)) (refused_is fault more (way (Refused fault) (Refused more) a b)) ∙ sym also
 
 -- ---- each request
 
-answered_once : (request : Request) (bytes : List ℕ) (a b : Answer) → IsAnswer request bytes a → IsAnswer request bytes b → a ≡ b
-answered_once (Blobs path) bytes a b one two = listed_once bytes a b one two
-answered_once (Build input output) bytes a b one two = built_once output bytes a b one two
-
-refused_once : (request : Request) (bytes : List ℕ) (f g : Failure) → IsReadOneWay bytes → IsRefused request bytes f → IsRefused request bytes g → f ≡ g
-refused_once (Blobs path) bytes f g way one two = stopped_once bytes f g one two
-refused_once (Build input output) bytes f g way one two = unbuilt_once bytes f g way one two
-
-pub one_end : (request : Request) (bytes : List ℕ) → IsReadOneWay bytes → (a b : Result Answer Failure) → EndsSo request bytes a → EndsSo request bytes b → a ≡ b
-one_end request bytes way (Ok a) (Ok b) one two = ap Ok (answered_once request bytes a b one two)
-one_end request bytes way (Ok a) (Err g) one two = absurd (not_both request bytes a g one two)
-one_end request bytes way (Err f) (Ok b) one two = absurd (not_both request bytes b f two one)
-one_end request bytes way (Err f) (Err g) one two = ap Err (refused_once request bytes f g way one two)
+pub one_end : (request : Request) (bytes : List ℕ) → FramesOneWay bytes → ReadsOneWay bytes → (one other : Result Answer Failure) → EndsSo request bytes one → EndsSo request bytes other → one ≡ other
+one_end (Blobs path) bytes frames reads one other so also = listed_once bytes one other frames (lists_so path bytes one so) (lists_so path bytes other also)
+one_end (Build input output) bytes frames reads one other so also = built_once output bytes one other reads (builds_so input output bytes one so) (builds_so input output bytes other also)

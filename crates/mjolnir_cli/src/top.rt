@@ -21,6 +21,7 @@ use crate::blobs::blob_list;
 use crate::build::plain_roads;
 use crate::deliver::deliver;
 use crate::failure::Failure;
+use crate::law::one_end;
 use crate::say::say_failure;
 use crate::words::{Command, asked};
 use host_port::{Gate, Host, HostFiles, Text};
@@ -122,6 +123,7 @@ pub fn mjolnir<R: Threads + Sync, H: Host, G: Gate>(
     ensures willing_says { H.willing host.old → HasItsInput (asked_by (map string_bytes words.now)) (H.told host.old) → H.say_faults host.new ≡ H.say_faults host.old }
 {
     list_agrees();
+    one_end();
     match asked(words) {
         None => say_failure(alloc, host, &Failure::Words),
         Some(command) => match run(alloc, command, host) {

@@ -4,7 +4,7 @@ use Rattle.osm_model.specs.declared.relations.MemberKind.{MemberKind}
 use Rattle.osm_model.specs.declared.relations.MemberKind.TheVariants as kinds
 use Rattle.pbf_blobs.specs.declared.blob.Blob.{Blob}
 use Rattle.pbf_blobs.specs.Next.{Outcome, Ends, Gives, Fails, next_of}
-use Rattle.pbf_blobs.specs.Frames.{Frames, IsLast, IsFramedOneWay}
+use Rattle.pbf_blobs.specs.Frames.{Frames, IsLast, IsFramed}
 use Rattle.osm_objects.specs.Objects.{Objects}
 use Rattle.osm_blocks.specs.declared.fault.Counted.{Counted}
 use Rattle.osm_blocks.specs.declared.fault.ExtractFault.{ExtractFault}
@@ -12,7 +12,7 @@ use Rattle.osm_blocks.specs.declared.fault.ExtractFault.TheVariants as faults
 use Rattle.osm_blocks.specs.Faults.{framed_as}
 use Rattle.osm_blocks.specs.Order.{InOrder}
 use Rattle.osm_blocks.specs.Counts.{counts_of, first_past}
-use Rattle.osm_blocks.specs.Extracts.{◌>>=◌, Draft, empty_draft, with_blob, with_blobs, node_id, way_id, relation_id, AreDistinct, IsFirstTwice, EndsWith, IsFinished, Reading, Extracted, Refused, IsReading, IsReadOneWay}
+use Rattle.osm_blocks.specs.Extracts.{◌>>=◌, Draft, empty_draft, with_blob, with_blobs, node_id, way_id, relation_id, AreDistinct, IsFirstTwice, EndsWith, IsFinished, Reading, Extracted, Refused, IsReading, IsRead}
 use Rattle.osm_blocks.proofs.Twice.{in_order_unlike, least_not_unlike, least_one}
 use Rattle.osm_blocks.proofs.Sorting.{ordered, in_order_one}
 use Rattle.osm_blocks.proofs.Prefix.{with_more, ReadTo, ReadTo-none, ReadTo-next, ReadTo-fails}
@@ -124,25 +124,37 @@ follows_same size blobs others o other grown reading b e g h =
 refused_grown : (draft : Draft) (blobs rest : List Blob) (blob : Blob) (fault : ExtractFault) → with_blobs empty_draft blobs ≡ Ok draft → with_blob draft blob ≡ Err fault → with_blobs empty_draft (blobs ++ blob ∷ rest) ≡ Err fault
 refused_grown draft blobs rest blob fault e f = with_more empty_draft blobs (blob ∷ rest) ∙ ap (λ r. r >>= λ d. with_blobs d (blob ∷ rest)) e ∙ ap (λ r. r >>= λ d. with_blobs d rest) f
 
-reads_follows : (bytes : List ℕ) → ((at : ℕ) → IsFramedOneWay bytes at) → (whole : IsFramedOneWay bytes 0) (reading : Reading) → IsReading bytes reading → Follows (length bytes) (with_blobs empty_draft whole.blobs) whole.outcome reading
-reads_follows bytes framed whole (Extracted lists) reads =
-    let same = whole.only reads.blobs Ends tt reads.frames in
+-- the frames from the start on have one list of blobs and one last outcome
+abbrev FramesOneWay : List ℕ → Type 0
+FramesOneWay bytes =
+    (blobs others : List Blob) (outcome other : Outcome) → IsLast outcome → IsLast other → Frames bytes 0 blobs outcome → Frames bytes 0 others other → (others ≡ blobs) × (other ≡ outcome)
+
+reads_follows : (bytes : List ℕ) → ((at : ℕ) → IsFramed bytes at) → FramesOneWay bytes → (whole : IsFramed bytes 0) (reading : Reading) → IsReading bytes reading → Follows (length bytes) (with_blobs empty_draft whole.blobs) whole.outcome reading
+reads_follows bytes framed way whole (Extracted lists) reads =
+    let same = way whole.blobs reads.blobs whole.outcome Ends whole.last tt whole.frames reads.frames in
     follows_same (length bytes) reads.blobs whole.blobs Ends whole.outcome (Ok reads.draft) (Extracted lists) same.0 same.1 reads.grows reads.ends
-reads_follows bytes framed whole (Refused fault) reads =
+reads_follows bytes framed way whole (Refused fault) reads =
     elim reads.next [
       | inl h ↦
-          let same = whole.only reads.blobs (Fails h.0) tt h.1 in
+          let same = way whole.blobs reads.blobs whole.outcome (Fails h.0) whole.last tt whole.frames h.1 in
           follows_same (length bytes) reads.blobs whole.blobs (Fails h.0) whole.outcome (Ok reads.draft) (Refused fault) same.0 same.1 reads.grows h.2
       | inr more ↦ elim more [
         | inl h ↦
             let rest = framed h.0.end in
-            let same = whole.only (reads.blobs ++ h.0 ∷ rest.blobs) rest.outcome rest.last (Frames-join bytes 0 reads.blobs rest.blobs h.0 rest.outcome h.1 rest.frames) in
-            follows_same (length bytes) (reads.blobs ++ h.0 ∷ rest.blobs) whole.blobs rest.outcome whole.outcome (Err fault) (Refused fault) same.0 same.1 (refused_grown reads.draft reads.blobs rest.blobs h.0 fault reads.grows h.2) refl
+            let blobs = reads.blobs ++ h.0 ∷ rest.blobs in
+            let frames = Frames-join bytes 0 reads.blobs rest.blobs h.0 rest.outcome h.1 rest.frames in
+            let same = way whole.blobs blobs whole.outcome rest.outcome whole.last rest.last whole.frames frames in
+            follows_same (length bytes) blobs whole.blobs rest.outcome whole.outcome (Err fault) (Refused fault) same.0 same.1 (refused_grown reads.draft reads.blobs rest.blobs h.0 fault reads.grows h.2) refl
         | inr h ↦
-            let same = whole.only reads.blobs Ends tt h.0 in
+            let same = way whole.blobs reads.blobs whole.outcome Ends whole.last tt whole.frames h.0 in
             follows_same (length bytes) reads.blobs whole.blobs Ends whole.outcome (Ok reads.draft) (Refused fault) same.0 same.1 reads.grows h.1
       ]
     ]
+
+pub one_way : (bytes : List ℕ) → ((at : ℕ) → IsFramed bytes at) → FramesOneWay bytes → (one other : Reading) → IsReading bytes one → IsReading bytes other → one ≡ other
+one_way bytes framed way one other reads also =
+    let whole = framed 0 in
+    follows_one (length bytes) (with_blobs empty_draft whole.blobs) whole.outcome one other (reads_follows bytes framed way whole one reads) (reads_follows bytes framed way whole other also)
 
 -- ---- there is a reading
 
@@ -188,30 +200,23 @@ some_end size draft = by_header draft.headed refl
           | inr t ↦ inr (faults.DuplicateId t.0 t.1.0, inr (inl (record { headed = e; kind = t.0; id = t.1.0; twice = t.1.1; is = refl })))
         ]
 
-go_on : (bytes : List ℕ) (at : ℕ) (draft : Draft) (blobs : List Blob) (o : Outcome) → ReadTo bytes at draft → IsLast o → Frames bytes at blobs o → (reading : Reading) × IsReading bytes reading
+go_on : (bytes : List ℕ) (at : ℕ) (draft : Draft) (blobs : List Blob) (o : Outcome) → ReadTo bytes at draft → IsLast o → Frames bytes at blobs o → IsRead bytes
 go_on bytes at draft [] Ends so_far last frames =
     elim (some_end (length bytes) draft) [
-      | inl h ↦ (Extracted h.0, record { blobs = so_far.blobs; draft = draft; frames = so_far.frames Ends frames; grows = so_far.grows; ends = h.1 })
-      | inr h ↦ (Refused h.0, record { blobs = so_far.blobs; draft = draft; grows = so_far.grows; next = inr (inr (so_far.frames Ends frames, h.1)) })
+      | inl h ↦ record { reading = Extracted h.0; reads = record { blobs = so_far.blobs; draft = draft; frames = so_far.frames Ends frames; grows = so_far.grows; ends = h.1 } }
+      | inr h ↦ record { reading = Refused h.0; reads = record { blobs = so_far.blobs; draft = draft; grows = so_far.grows; next = inr (inr (so_far.frames Ends frames, h.1)) } }
     ]
 go_on bytes at draft [] (Gives blob) so_far last frames = absurd last
-go_on bytes at draft [] (Fails framing) so_far last frames = (Refused (framed_as framing), ReadTo-fails bytes at draft (framed_as framing) so_far (inl (framing, frames, refl)))
+go_on bytes at draft [] (Fails framing) so_far last frames = record { reading = Refused (framed_as framing); reads = ReadTo-fails bytes at draft (framed_as framing) so_far (inl (framing, frames, refl)) }
 go_on bytes at draft (blob ∷ blobs) o so_far last frames =
     grow_by bytes at draft blob so_far frames.0 (with_blob draft blob) refl (λ next so. go_on bytes blob.end next blobs o so last frames.1)
   where
     grow_by : (bytes : List ℕ) (at : ℕ) (draft : Draft) (blob : Blob) → ReadTo bytes at draft → next_of at (drop at bytes) ≡ Gives blob → (grown : Result Draft ExtractFault) → with_blob draft blob ≡ grown
-        → ((next : Draft) → ReadTo bytes blob.end next → (reading : Reading) × IsReading bytes reading) → (reading : Reading) × IsReading bytes reading
-    grow_by bytes at draft blob so next (Err fault) e rest = (Refused fault, ReadTo-fails bytes at draft fault so (inr (blob, next, e)))
+        → ((next : Draft) → ReadTo bytes blob.end next → IsRead bytes) → IsRead bytes
+    grow_by bytes at draft blob so next (Err fault) e rest = record { reading = Refused fault; reads = ReadTo-fails bytes at draft fault so (inr (blob, next, e)) }
     grow_by bytes at draft blob so next (Ok d) e rest = rest d (ReadTo-next bytes at blob draft d so next e)
 
-pub is_read_one_way : (bytes : List ℕ) → ((at : ℕ) → IsFramedOneWay bytes at) → IsReadOneWay bytes
-is_read_one_way bytes framed =
+pub is_read : (bytes : List ℕ) → ((at : ℕ) → IsFramed bytes at) → IsRead bytes
+is_read bytes framed =
     let whole = framed 0 in
-    let here = go_on bytes 0 empty_draft whole.blobs whole.outcome (ReadTo-none bytes) whole.last whole.frames in
-    record {
-      reading = here.0;
-      reads = here.1;
-      only = λ other reads.
-          follows_one (length bytes) (with_blobs empty_draft whole.blobs) whole.outcome other here.0
-          (reads_follows bytes framed whole other reads) (reads_follows bytes framed whole here.0 here.1);
-    }
+    go_on bytes 0 empty_draft whole.blobs whole.outcome (ReadTo-none bytes) whole.last whole.frames

@@ -172,8 +172,7 @@ abbrev pub IsReading : List ℕ → Reading → Type 0
 IsReading bytes (Extracted lists) = Reads bytes lists
 IsReading bytes (Refused fault) = Refuses bytes fault
 
--- For each list of bytes there is one reading.
-pub record IsReadOneWay (bytes : List ℕ) : Type 0 where
+-- There is a reading of the bytes.
+pub record IsRead (bytes : List ℕ) : Type 0 where
   pub reading : Reading
   pub reads : IsReading bytes reading
-  pub only : (other : Reading) → IsReading bytes other → other ≡ reading

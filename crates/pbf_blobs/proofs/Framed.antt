@@ -1,24 +1,15 @@
--- A whole input is read as one list of blobs and one last outcome.
-use Rattle.std.proofs.Common.{◌≡◌, ℕ, zero, suc, ◌+◌, ◌-◌, ◌<◌, ◌≤◌, ◌↔◌, List, [], ◌∷◌, ◌++◌, length, drop, refl, sym, ap, ◌∙◌, subst, arith, length-append}
+-- A whole input is read as one list of blobs and one last outcome. Without a fault it is a concatenation of triples.
+use Rattle.std.proofs.Common.{◌≡◌, ℕ, zero, suc, ◌-◌, ◌<◌, ◌↔◌, List, [], ◌∷◌, ◌++◌, length, drop, refl, sym, ap, ◌∙◌, subst, arith}
 use Rattle.std.proofs.lemmas.List.{drop-drop, drop_at}
 use Rattle.std.proofs.lemmas.List.Elements.{All-drop}
-use Rattle.std.specs.Int.{w32, to_be_bytes}
 use Rattle.wire_read.specs.Varint.{AreBytes}
 use Rattle.pbf_blobs.specs.declared.blob.Blob.{Blob}
 use Rattle.pbf_blobs.specs.Triple.{IsTriple, AreTriples}
 use Rattle.pbf_blobs.specs.Next.{Outcome, Ends, Gives, Fails, next_of}
 use Rattle.pbf_blobs.specs.Means.{BeginsWithTriple}
-use Rattle.pbf_blobs.specs.Frames.{Frames, IsLast, IsFramedOneWay}
-use Rattle.pbf_blobs.proofs.Makes.{length-spelled}
+use Rattle.pbf_blobs.specs.Frames.{Frames, IsLast, IsFramed}
+use Rattle.pbf_blobs.proofs.Ahead.{gives-ahead}
 use Rattle.pbf_blobs.proofs.Meanings.{outcome_means}
-
--- a triple has a length, and ends within the largest input
-triple-ahead : (at : ℕ) (triple : List ℕ) (blob : Blob) → IsTriple at triple blob → (at + 4 ≤ blob.end) × (blob.end ≤ 536870912)
-triple-ahead at triple blob t =
-    let spelled = to_be_bytes w32 (length t.header) in
-    let count : length triple ≡ 4 + length t.header + length t.body =
-    ap length t.parts ∙ length-append (spelled ++ t.header) t.body ∙ ap (λ n. n + length t.body) (length-append spelled t.header ∙ ap (λ n. n + length t.header) (length-spelled (length t.header))) in
-    (omega (arith, count, t.end), t.end_limit)
 
 -- what is left of bytes is bytes
 left-are : (bytes : List ℕ) (at : ℕ) → AreBytes bytes → AreBytes (drop at bytes)
@@ -56,46 +47,38 @@ frames-from_triples bytes at (blob ∷ blobs) are t =
 pub frames_are_triples : (bytes : List ℕ) → AreBytes bytes → (at : ℕ) (blobs : List Blob) → Frames bytes at blobs Ends ↔ AreTriples at (drop at bytes) blobs
 frames_are_triples bytes are at blobs = (triples-from_frames bytes at blobs are, frames-from_triples bytes at blobs are)
 
--- ---- one list of blobs and one outcome
-
--- no more blobs and a last outcome
-last_one : (bytes : List ℕ) (at : ℕ) (outcome : Outcome) → IsLast outcome → next_of at (drop at bytes) ≡ outcome → IsFramedOneWay bytes at
-last_one bytes at outcome last e = record { blobs = []; outcome = outcome; last = last; frames = e; only = only }
-  where
-    not_last : (blob : Blob) (o : Outcome) → IsLast o → o ≡ Gives blob → ⊥
-    not_last blob o last is = subst (λ (o : Outcome). IsLast o) is last
-
-    only : (others : List Blob) (other : Outcome) → IsLast other → Frames bytes at others other → (others ≡ []) × (other ≡ outcome)
-    only [] other last_other frames = (refl, sym frames ∙ e)
-    only (blob ∷ others) other last_other frames = absurd (not_last blob outcome last (sym e ∙ frames.0))
-
--- a blob more in front
-one_more : (bytes : List ℕ) (at : ℕ) (blob : Blob) → next_of at (drop at bytes) ≡ Gives blob → IsFramedOneWay bytes blob.end → IsFramedOneWay bytes at
-one_more bytes at blob e behind = record { blobs = blob ∷ behind.blobs; outcome = behind.outcome; last = behind.last; frames = (e, behind.frames); only = only }
-  where
-    same_blob : (a b : Blob) → Gives a ≡ Gives b → a ≡ b
-    same_blob a b p = cc
-
-    only : (others : List Blob) (other : Outcome) → IsLast other → Frames bytes at others other → (others ≡ blob ∷ behind.blobs) × (other ≡ behind.outcome)
-    only [] other last_other frames = absurd (subst (λ (o : Outcome). IsLast o) (sym frames ∙ e) last_other)
-    only (first ∷ others) other last_other frames =
-        let same : first ≡ blob = same_blob first blob (sym frames.0 ∙ e) in
-        let rest = behind.only others other last_other (subst (λ (b : Blob). Frames bytes b.end others other) same frames.1) in
-        (ap (λ b. b ∷ others) same ∙ ap (λ bs. blob ∷ bs) rest.0, rest.1)
+-- ---- there is a list of blobs and a last outcome
 
 -- by the bytes that an input may still have
-framed_by : (most : ℕ) (bytes : List ℕ) (at : ℕ) (outcome : Outcome) → AreBytes bytes → 536870912 - at < suc most → next_of at (drop at bytes) ≡ outcome → ((next : ℕ) → 536870912 - next < most → IsFramedOneWay bytes next) → IsFramedOneWay bytes at
-framed_by most bytes at Ends are room e behind = last_one bytes at Ends tt e
-framed_by most bytes at (Gives blob) are room e behind =
-    let begins = triple-there bytes at blob are e in
-    let ahead = triple-ahead at begins.triple blob begins.is_triple in
-    one_more bytes at blob e (behind blob.end (omega (arith, ahead.0, ahead.1, room)))
-framed_by most bytes at (Fails fault) are room e behind = last_one bytes at (Fails fault) tt e
+framed_by : (most : ℕ) (bytes : List ℕ) (at : ℕ) (outcome : Outcome) → 536870912 - at < suc most → next_of at (drop at bytes) ≡ outcome → ((next : ℕ) → 536870912 - next < most → IsFramed bytes next) → IsFramed bytes at
+framed_by most bytes at Ends room e behind = record { blobs = []; outcome = Ends; last = tt; frames = e }
+framed_by most bytes at (Gives blob) room e behind =
+    let ahead = gives-ahead at (drop at bytes) blob e in
+    let others = behind blob.end (omega (arith, ahead.0, ahead.1, room)) in
+    record { blobs = blob ∷ others.blobs; outcome = others.outcome; last = others.last; frames = (e, others.frames) }
+framed_by most bytes at (Fails fault) room e behind = record { blobs = []; outcome = Fails fault; last = tt; frames = e }
 
-framed_within : (most : ℕ) (bytes : List ℕ) (at : ℕ) → AreBytes bytes → 536870912 - at < most → IsFramedOneWay bytes at
-framed_within zero bytes at are room = absurd (omega arith)
-framed_within (suc most) bytes at are room =
-    framed_by most bytes at (next_of at (drop at bytes)) are room refl (λ next less. framed_within most bytes next are less)
+framed_within : (most : ℕ) (bytes : List ℕ) (at : ℕ) → 536870912 - at < most → IsFramed bytes at
+framed_within zero bytes at room = absurd (omega arith)
+framed_within (suc most) bytes at room =
+    framed_by most bytes at (next_of at (drop at bytes)) room refl (λ next less. framed_within most bytes next less)
 
-pub is_framed_one_way : (bytes : List ℕ) → AreBytes bytes → (at : ℕ) → IsFramedOneWay bytes at
-is_framed_one_way bytes are at = framed_within (suc (536870912 - at)) bytes at are (omega arith)
+pub is_framed : (bytes : List ℕ) (at : ℕ) → IsFramed bytes at
+is_framed bytes at = framed_within (suc (536870912 - at)) bytes at (omega arith)
+
+-- ---- and only one
+
+not_last : (blob : Blob) (outcome : Outcome) → IsLast outcome → outcome ≡ Gives blob → ⊥
+not_last blob outcome last is = subst (λ (o : Outcome). IsLast o) is last
+
+same_blob : (a b : Blob) → Gives a ≡ Gives b → a ≡ b
+same_blob a b e = cc
+
+pub one_way : (bytes : List ℕ) (at : ℕ) (blobs others : List Blob) (outcome other : Outcome) → IsLast outcome → IsLast other → Frames bytes at blobs outcome → Frames bytes at others other → (others ≡ blobs) × (other ≡ outcome)
+one_way bytes at [] [] outcome other last last_other frames more = (refl, sym more ∙ frames)
+one_way bytes at [] (blob ∷ others) outcome other last last_other frames more = absurd (not_last blob outcome last (sym frames ∙ more.0))
+one_way bytes at (blob ∷ blobs) [] outcome other last last_other frames more = absurd (not_last blob other last_other (sym more ∙ frames.0))
+one_way bytes at (blob ∷ blobs) (first ∷ others) outcome other last last_other frames more =
+    let same : first ≡ blob = same_blob first blob (sym more.0 ∙ frames.0) in
+    let rest = one_way bytes blob.end blobs others outcome other last last_other frames.1 (subst (λ (b : Blob). Frames bytes b.end others other) same more.1) in
+    (ap (λ b. b ∷ others) same ∙ ap (λ bs. blob ∷ bs) rest.0, rest.1)

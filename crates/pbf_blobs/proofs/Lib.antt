@@ -6,6 +6,7 @@ pub mod Starts
 pub mod PlainFront
 pub mod Bodied
 pub mod Within
+pub mod Ahead
 pub mod Makes
 pub mod Meanings
 pub mod Framed

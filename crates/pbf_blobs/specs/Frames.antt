@@ -14,10 +14,9 @@ IsLast Ends = Unit {0}
 IsLast (Gives blob) = ⊥
 IsLast (Fails fault) = Unit {0}
 
--- For each input and place there is one list of blobs and one last outcome.
-pub record IsFramedOneWay (bytes : List ℕ) (at : ℕ) : Type 0 where
+-- There is a list of blobs from the place at on, and a last outcome behind it.
+pub record IsFramed (bytes : List ℕ) (at : ℕ) : Type 0 where
   pub blobs : List Blob
   pub outcome : Outcome
   pub last : IsLast outcome
   pub frames : Frames bytes at blobs outcome
-  pub only : (others : List Blob) (other : Outcome) → IsLast other → Frames bytes at others other → (others ≡ blobs) × (other ≡ outcome)

@@ -19,7 +19,7 @@ returns-in-Ok-clause-blobs_unput g c = λ path blobs.
 
 pub returns-in-Ok-clause-refused_only : goal.returns-in-Ok-clause-refused_only
 returns-in-Ok-clause-refused_only g c = λ request bytes failure asks refused unread.
-    absurd (answered _ _ (request_of c.in-Some.command) request bytes _ failure (sym c.asked.ensures ∙ ap (option_map request_of) c.in-Some.is) c.in-Ok.ensures.answered asks refused)
+    absurd (answered c.one_end.ensures _ _ (request_of c.in-Some.command) request bytes _ failure (sym c.asked.ensures ∙ ap (option_map request_of) c.in-Some.is) c.in-Ok.ensures.answered asks refused)
 
 pub returns-in-Err-clause-read_line : goal.returns-in-Err-clause-read_line
 returns-in-Err-clause-read_line g c = λ three.
@@ -34,8 +34,8 @@ returns-in-Err-clause-refused g c =
 
 pub returns-in-Err-clause-refused_only : goal.returns-in-Err-clause-refused_only
 returns-in-Err-clause-refused_only g c = λ request bytes other asks refused unread.
-    refused_so _ _ (request_of c.in-Some.command) request bytes c.in-Err.failure other _ _ _ _ (sym c.asked.ensures ∙ ap (option_map request_of) c.in-Some.is) c.in-Err.ensures.met c.in-Err.ensures.refused c.in-Err.ensures.reads c.say_failure-in-Err.ensures.reads unread asks refused c.say_failure-in-Err.ensures.status
+    refused_so c.one_end.ensures _ _ (request_of c.in-Some.command) request bytes c.in-Err.failure other _ _ _ _ (sym c.asked.ensures ∙ ap (option_map request_of) c.in-Some.is) c.in-Err.ensures.met c.in-Err.ensures.refused c.in-Err.ensures.reads c.say_failure-in-Err.ensures.reads unread asks refused c.say_failure-in-Err.ensures.status
 
 pub returns-in-Err-clause-complete : goal.returns-in-Err-clause-complete
 returns-in-Err-clause-complete g c = λ request bytes answer asks is unread unput unsaid.
-    inr (complete _ _ (request_of c.in-Some.command) request bytes answer c.in-Err.failure _ _ _ _ (sym c.asked.ensures ∙ ap (option_map request_of) c.in-Some.is) c.in-Err.ensures.met c.in-Err.ensures.refused c.in-Err.ensures.reads c.say_failure-in-Err.ensures.reads unread asks is c.say_failure-in-Err.ensures.status)
+    inr (complete c.one_end.ensures _ _ (request_of c.in-Some.command) request bytes answer c.in-Err.failure _ _ _ _ (sym c.asked.ensures ∙ ap (option_map request_of) c.in-Some.is) c.in-Err.ensures.met c.in-Err.ensures.refused c.in-Err.ensures.reads c.say_failure-in-Err.ensures.reads unread asks is c.say_failure-in-Err.ensures.status)

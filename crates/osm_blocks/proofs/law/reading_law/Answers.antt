@@ -1,5 +1,8 @@
-use Rattle.osm_blocks.proofs.Readings.{is_read_one_way}
+use Rattle.osm_blocks.proofs.Readings.{is_read, one_way}
 use Rattle.osm_blocks.proofs.law.reading_law.Goals as goal
 
-pub returns : goal.returns
-returns c = λ bytes are. is_read_one_way bytes (λ at. c.framing_law.ensures.one_way bytes are at)
+pub returns-clause-read : goal.returns-clause-read
+returns-clause-read c = λ bytes. is_read bytes (c.framing_law.ensures.framed bytes)
+
+pub returns-clause-one_way : goal.returns-clause-one_way
+returns-clause-one_way c = λ bytes one other reads also. one_way bytes (c.framing_law.ensures.framed bytes) (c.framing_law.ensures.one_way bytes 0) one other reads also
