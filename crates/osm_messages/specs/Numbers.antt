@@ -1,6 +1,6 @@
 -- The numbers of an object (osmformat.proto: Node, DenseNodes, Way, Relation), by the fields that hold them.
-use Rattle.std.specs.Prelude.{ℕ, Bool, ◌==◌, ◌||◌, if◌then◌else◌, List, [], ◌∷◌, ◌++◌, Option, None, Result, Ok}
-use Rattle.std.specs.List.{list_any, last_or}
+use Rattle.std.specs.Prelude.{ℕ, Bool, ◌==◌, ◌||◌, if◌then◌else◌, List, [], ◌∷◌, ◌++◌, Result, Ok}
+use Rattle.std.specs.List.{list_any}
 use Rattle.wire_read.specs.Fields.{Content, Varint, Fixed64, Bytes, Fixed32, WireField, packed_of}
 use Rattle.osm_messages.specs.declared.fault.MessageFault.{MessageFault}
 use Rattle.osm_messages.specs.declared.kind.ObjectKind.{ObjectKind}
@@ -71,7 +71,3 @@ numbers_in shape at bytes = message (number_step shape) [] at bytes
 abbrev pub numbered : ℕ → List (ℕ × ℕ) → List ℕ
 numbered field [] = []
 numbered field ((number, n) ∷ numbers) = if number == field then n ∷ numbered field numbers else numbered field numbers
-
--- the last one of them, which counts where a field holds one number
-abbrev pub last_numbered : ℕ → List (ℕ × ℕ) → Option ℕ
-last_numbered field numbers = last_or None (numbered field numbers)
