@@ -6,4 +6,3 @@ pub mod Limits
 pub mod Shown
 pub mod Prefix
 pub mod Readings
-pub mod Placed

@@ -11,3 +11,4 @@ pub mod DenseLoop
 pub mod Lengths
 pub mod DenseChain
 pub mod BlockLoop
+pub mod Placed

@@ -1,7 +1,8 @@
 //! The objects of blocks.
-ghost use Rattle.std.specs.Prelude.{◌≡◌, [], map};
+ghost use Rattle.std.specs.Prelude.{◌≡◌, [], map, All, OnOk};
 ghost use Rattle.osm_messages.specs.Groups.{HasNumbers};
 ghost use Rattle.osm_messages.specs.Seen.{seen_object, seen_block};
+ghost use Rattle.osm_model.specs.OsmNode.{IsPlaced};
 ghost use Rattle.osm_objects.specs.Objects.{Spelled, no_objects, behind, with_object, scale_of, objects_of};
 ghost use Rattle.osm_objects.specs.Answers.{Becomes};
 ghost use Rattle.osm_objects.specs.Seen.{table_of, seen_objects};
@@ -110,7 +111,8 @@ pub fn add_objects(
     lists: &mut ObjectLists,
 ) -> Result<(), ObjectFault>
     requires { Spelled (seen_block block.now) }
-    ensures { Becomes result (seen_objects lists.new) (behind (seen_objects lists.old) (objects_of at (seen_block block.now))) }
+    ensures objects { Becomes result (seen_objects lists.new) (behind (seen_objects lists.old) (objects_of at (seen_block block.now))) }
+    ensures placed { All IsPlaced lists.old.nodes.items → OnOk result (All IsPlaced lists.new.nodes.items) }
 {
     let Some(table) = &block.texts else {
         return Err(ObjectFault::MissingField { at, number: 1 });

@@ -1,15 +1,15 @@
-use Rattle.std.proofs.Common.{◌≡◌, ◌∙◌, ap, sym, refl, arith, length, ◌<◌}
-use Rattle.osm_messages.specs.Seen.{seen_object, seen_block}
+use Rattle.std.proofs.Common.{◌∙◌, refl, arith}
+use Rattle.osm_messages.specs.Seen.{seen_block}
 use Rattle.osm_objects.specs.Objects.{scale_of}
 use Rattle.osm_objects.specs.Seen.{table_of, seen_objects}
 use Rattle.osm_objects.proofs.Results.{bind_is, bind_stop}
 use Rattle.osm_objects.proofs.Exits.{Becomes-exit}
-use Rattle.osm_objects.proofs.BlockLoop.{block-begun, block-no_table, block-more, spelled_at, no_texts, some_texts}
-use Rattle.osm_objects.proofs.Loops.{Going}
+use Rattle.osm_objects.proofs.BlockLoop.{block-begun, block-no_table, block-more, block-end, spelled_at, no_texts, some_texts}
+use Rattle.osm_objects.proofs.Placed.{all_placed}
 use Rattle.osm_objects.proofs.objects.add_objects.Goals as goal
 
-pub returns-in_default : goal.returns-in_default
-returns-in_default c = block-no_table c.args.at (seen_block c.args.block.now) (seen_objects c.args.lists.now) _ (no_texts c.args.at c.args.block.now.texts c.in_default.is)
+pub returns-in_default-clause-objects : goal.returns-in_default-clause-objects
+returns-in_default-clause-objects c = block-no_table c.args.at (seen_block c.args.block.now) (seen_objects c.args.lists.now) _ (no_texts c.args.at c.args.block.now.texts c.in_default.is)
 
 pub loop-i-init : goal.loop-i-init
 loop-i-init c = record {
@@ -21,8 +21,8 @@ loop-i-init c = record {
 pub add_object-requires : goal.add_object-requires
 add_object-requires c = spelled_at c.args.block.now.objects.items c.loop-i.i c.index.result.now c.requires (omega arith) c.index.ensures
 
-pub returns-in_err-add_object : goal.returns-in_err-add_object
-returns-in_err-add_object c =
+pub returns-in_err-add_object-clause-objects : goal.returns-in_err-add_object-clause-objects
+returns-in_err-add_object-clause-objects c =
     let added = rw (c.loop-i.invariant.kept, c.block_scale-scale.ensures) at c.in_err-add_object.ensures.objects in
     Becomes-exit _ _ _ _ _ c.from_residual-in_err-add_object.ensures.1 added
     (λ d e. c.loop-i.invariant.same
@@ -38,3 +38,8 @@ loop-i-preserved c =
           ∙ bind_is _ _ _ added;
       kept = c.add_object.ensures.table ∙ c.loop-i.invariant.kept;
     }
+
+pub returns : goal.returns
+returns c =
+    let objects = c.loop-i.invariant.same ∙ block-end _ _ _ c.args.block.now.objects.items c.loop-i.i (omega arith) in
+    record { objects = objects; placed = λ before. all_placed (seen_objects c.args.lists.now) (seen_objects c.loop-i.lists) _ _ before objects }
