@@ -1,15 +1,12 @@
 -- A dense message, part by part.
-use Rattle.std.proofs.Common.{◌≡◌, ℕ, zero, suc, ℤ, pos, ◌+ℤ◌, eqb, cond, Bool, true, false, List, [], ◌∷◌, length, Result, Ok, Err, IsOk, refl, sym, ap, ◌∙◌, inl, inr}
-use Rattle.std.proofs.lemmas.Bool.{cases_Bool, eqb-true}
-use Rattle.wire_read.specs.ZigZag.{unzigzag_of}
+use Rattle.std.proofs.Common.{◌≡◌, ℕ, ℤ, List, length, Result, Ok, Err, IsOk, refl, sym, ap, ◌∙◌}
 use Rattle.osm_messages.specs.Lists.{Lists}
 use Rattle.osm_model.specs.declared.nodes.OsmNode.{OsmNode}
 use Rattle.osm_objects.specs.declared.fault.ObjectFault.{ObjectFault}
-use Rattle.osm_objects.specs.declared.fault.ObjectFault.TheVariants.{BadNumber, Uneven}
 use Rattle.osm_objects.specs.declared.scale.Scale.{Scale}
 use Rattle.osm_objects.specs.Steps.{◌>>=◌}
 use Rattle.osm_objects.specs.Parts.{as_many}
-use Rattle.osm_objects.specs.Sums.{fits_i64, sums_from, sums_of}
+use Rattle.osm_objects.specs.Sums.{sums_of}
 use Rattle.osm_objects.specs.Groups.{groups_of}
 use Rattle.osm_objects.specs.Nodes.{grouped_nodes, dense_of}
 use Rattle.osm_objects.specs.FirstGroups.{nodes_read}

@@ -14,7 +14,7 @@ use Rattle.osm_objects.specs.FirstGroups.{first_group, behind_group, group_read,
 use Rattle.osm_objects.specs.Coordinates.{node_at}
 use Rattle.osm_objects.specs.Nodes.{nodes_at, grouped_nodes}
 use Rattle.osm_objects.specs.Answers.{after}
-use Rattle.osm_objects.proofs.Results.{bind_assoc, bind_same, after_nil, after_after}
+use Rattle.osm_objects.proofs.Results.{bind_assoc, bind_same, after_after}
 use Rattle.osm_objects.proofs.Loops.{at_place}
 use Rattle.osm_objects.proofs.KeysValues.{Groups, Spells, Spells-first, Spells-begun}
 

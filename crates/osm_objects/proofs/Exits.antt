@@ -1,5 +1,5 @@
 -- The exits of functions: the fault of a part is the fault of the whole.
-use Rattle.std.proofs.Common.{◌≡◌, Result, Ok, Err, IsOk, refl, sym, ap, ◌∙◌}
+use Rattle.std.proofs.Common.{◌≡◌, Result, Ok, Err, IsOk}
 use Rattle.std.specs.Prelude.{IsErrAnd}
 use Rattle.std.proofs.lemmas.Result.{err_from_is_err_and}
 use Rattle.osm_objects.specs.declared.fault.ObjectFault.{ObjectFault}

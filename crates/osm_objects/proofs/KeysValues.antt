@@ -1,5 +1,5 @@
 -- Groups of keys and values, one after the other.
-use Rattle.std.proofs.Common.{◌≡◌, ℕ, zero, suc, ◌+◌, ◌<◌, ◌≤◌, eqb, cond, Bool, true, false, List, [], ◌∷◌, length, replicate, Option, Some, None, Result, Ok, Err, IsOk, refl, sym, ap, ◌∙◌, arith, ◌⊎◌, inl, inr, append-nil, zero-add, take, drop, ◌-◌}
+use Rattle.std.proofs.Common.{◌≡◌, ℕ, zero, suc, ◌+◌, ◌<◌, ◌≤◌, eqb, cond, true, false, List, [], ◌∷◌, length, replicate, Option, Some, None, Ok, Err, IsOk, refl, sym, ap, ◌∙◌, arith, ◌⊎◌, inl, inr, append-nil, zero-add, take, drop, ◌-◌}
 use Rattle.std.proofs.lemmas.Bool.{cases_Bool, eqb-true}
 use Rattle.std.proofs.lemmas.List.{length-replicate, take_all}
 use Rattle.std.specs.Option.{option_and_then, option_map}

@@ -6,11 +6,11 @@ use Rattle.osm_model.specs.declared.tags.Tag.{Tag}
 use Rattle.osm_model.specs.declared.relations.Member.{Member}
 use Rattle.osm_model.specs.declared.relations.MemberKind.{MemberKind}
 use Rattle.osm_objects.specs.declared.fault.ObjectFault.{ObjectFault}
-use Rattle.osm_objects.specs.Steps.{◌>>=◌, each, each_joined}
+use Rattle.osm_objects.specs.Steps.{◌>>=◌, each}
 use Rattle.osm_objects.specs.Tags.{text_at, tag_of, tags_of}
 use Rattle.osm_objects.specs.Relations.{members_of}
 use Rattle.osm_objects.specs.Answers.{after}
-use Rattle.osm_objects.proofs.Results.{after_nil, after_after}
+use Rattle.osm_objects.proofs.Results.{after_after}
 
 -- the element at a place, and those behind it
 pub at_place : {A : Type 0} (xs : List A) (i : ℕ) (x d : A) → i < length xs → x ≡ get_or xs i d → drop i xs ≡ x ∷ drop (i + 1) xs

@@ -1,9 +1,9 @@
 -- One tag: its key, and then its value.
-use Rattle.std.proofs.Common.{◌≡◌, ℕ, true, false, List, [], ◌∷◌, ◌++◌, Result, Ok, Err, IsOk, refl, sym, ap, ◌∙◌, append-nil}
+use Rattle.std.proofs.Common.{◌≡◌, ℕ, true, false, List, [], ◌∷◌, ◌++◌, Result, Ok, Err, IsOk, refl, ap, ◌∙◌, append-nil}
 use Rattle.osm_model.specs.declared.tags.Tag.{Tag}
 use Rattle.osm_objects.specs.declared.fault.ObjectFault.{ObjectFault}
 use Rattle.osm_objects.specs.Steps.{◌>>=◌}
-use Rattle.osm_objects.specs.Tags.{bytes_at, text_at, keeps, kept_tag, dropped_tag, tag_of}
+use Rattle.osm_objects.specs.Tags.{bytes_at, text_at, keeps, kept_tag, tag_of}
 use Rattle.osm_objects.specs.Answers.{after}
 
 pub tag-no_key : (table : List (List ℕ)) (at key value : ℕ) (d : ObjectFault) → keeps table at key ≡ Err d → tag_of table at (key, value) ≡ Err d

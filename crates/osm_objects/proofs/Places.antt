@@ -1,7 +1,6 @@
 -- Where a node lies, by its latitude and its longitude.
-use Rattle.std.proofs.Common.{◌≡◌, ℤ, pos, cond, true, false, List, Result, Ok, Err, refl, sym, ap, ◌∙◌}
+use Rattle.std.proofs.Common.{◌≡◌, ℤ, pos, true, false, List, Ok, Err, refl}
 use Rattle.osm_model.specs.declared.tags.Tag.{Tag}
-use Rattle.osm_model.specs.declared.nodes.OsmNode.{OsmNode}
 use Rattle.osm_objects.specs.declared.fault.ObjectFault.TheVariants.{BadCoordinate}
 use Rattle.osm_objects.specs.declared.scale.Scale.{Scale}
 use Rattle.osm_objects.specs.Scales.{units_of, is_within}

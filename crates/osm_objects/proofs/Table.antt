@@ -1,12 +1,10 @@
 -- The string table while its texts are used.
-use Rattle.std.proofs.Common.{◌≡◌, ℕ, ◌+◌, ◌<◌, ◌≤◌, List, [], ◌∷◌, ◌++◌, length, map, get_or, set, take, drop, Option, Some, None, Result, Ok, Err, refl, sym, ap, ◌∙◌}
+use Rattle.std.proofs.Common.{◌≡◌, ℕ, ◌<◌, List, length, map, get_or, set, Ok, sym, ap, ◌∙◌}
 use Rattle.std.proofs.Math.Seq.{map-set_same}
-use Rattle.std.specs.Prelude.{slice_get}
 use Rattle.std.specs.Option.{option_map}
-use Rattle.std.proofs.lemmas.Option.{slice_get_past, slice_get-map, slice_get-get_or}
+use Rattle.std.proofs.lemmas.Option.{slice_get-map, slice_get-get_or}
 use Rattle.osm_objects.specs.declared.entry.Entry.{Entry}
-use Rattle.osm_objects.specs.declared.fault.ObjectFault.TheVariants.{BadString}
-use Rattle.osm_objects.specs.Tags.{found, bytes_at, as_text, text_at}
+use Rattle.osm_objects.specs.Tags.{found, bytes_at}
 
 -- the bytes of each entry
 abbrev pub bytes_in : List Entry → List (List ℕ)

@@ -1,8 +1,7 @@
-use Rattle.std.proofs.Common.{rules, ◌≡◌, ◌∙◌, ap, sym, length, IsOk, Ok, ℕ}
+use Rattle.std.proofs.Common.{◌≡◌, ◌∙◌, sym, length, IsOk, Ok}
 use Rattle.osm_messages.specs.Lists.{seen_lists}
 use Rattle.osm_objects.specs.Parts.{as_many}
 use Rattle.osm_objects.specs.Sums.{sums_of}
-use Rattle.osm_objects.specs.Groups.{groups_of}
 use Rattle.osm_objects.specs.Seen.{table_of}
 use Rattle.osm_objects.proofs.DenseChain.{dense-nodes}
 use Rattle.osm_objects.proofs.Lengths.{sums-length, even-lengths}

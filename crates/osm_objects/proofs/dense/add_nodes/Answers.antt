@@ -1,14 +1,12 @@
-use Rattle.std.proofs.Common.{rules, ◌≡◌, ◌<◌, ◌≤◌, ◌∙◌, length, arith, ap, sym, refl, Ok, Err, ◌+◌, List, ℕ, ℤ, pos, get_or, to_z, of_z, w64, w32, FitsSigned, None, Vec, Global}
+use Rattle.std.proofs.Common.{rules, ◌≡◌, ◌<◌, ◌∙◌, length, arith, ap, sym, refl, Ok, Err, List, ℤ, pos, to_z, of_z, w64, w32, FitsSigned, Vec, Global}
 use Rattle.std.proofs.lemmas.Int.{to_z-of_z}
 use Rattle.std.proofs.lemmas.List.{get_or_read}
 use Rattle.osm_model.specs.declared.tags.Tag.{Tag}
 use Rattle.osm_model.specs.declared.nodes.OsmNode.{OsmNode}
 use Rattle.osm_objects.specs.declared.fault.ObjectFault.TheVariants.{BadCoordinate}
 use Rattle.osm_objects.specs.Seen.{table_of}
-use Rattle.osm_objects.specs.FirstGroups.{nodes_read}
-use Rattle.osm_objects.specs.Answers.{after}
 use Rattle.osm_objects.proofs.Exits.{Becomes-exit}
-use Rattle.osm_objects.proofs.DenseLoop.{DenseSoFar, DenseSoFar-begun, DenseSoFar-end, turn-fault, turn-placed, turn-misplaced, whole-good, whole-bad, IsNode}
+use Rattle.osm_objects.proofs.DenseLoop.{DenseSoFar-begun, DenseSoFar-end, turn-fault, turn-placed, turn-misplaced, whole-bad}
 use Rattle.osm_objects.proofs.dense.add_nodes.Goals as goal
 use Rattle.osm_objects.proofs.dense.add_nodes.Goals.{in-Some+in_ok-push-in-Some, in-None}
 

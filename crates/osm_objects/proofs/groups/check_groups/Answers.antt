@@ -1,4 +1,4 @@
-use Rattle.osm_objects.proofs.KeysValues.{CountSoFar, count-pair}
+use Rattle.osm_objects.proofs.KeysValues.{count-pair}
 use Rattle.osm_objects.proofs.groups.check_groups.Goals as goal
 
 pub loop-key-preserved : goal.loop-key-preserved

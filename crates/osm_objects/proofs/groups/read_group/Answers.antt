@@ -1,12 +1,11 @@
-use Rattle.std.proofs.Common.{rules, ◌≡◌, ◌∙◌, ap, sym, refl, Ok, Err, List, ℕ, [], ◌∷◌}
+use Rattle.std.proofs.Common.{◌≡◌, ◌∙◌, ap, sym, refl, Ok, [], ◌∷◌}
 use Rattle.std.proofs.lemmas.List.{nil_from_length}
-use Rattle.osm_objects.specs.Steps.{◌>>=◌}
 use Rattle.osm_objects.specs.Tags.{tags_of}
-use Rattle.osm_objects.specs.FirstGroups.{first_group, group_read}
+use Rattle.osm_objects.specs.FirstGroups.{first_group}
 use Rattle.osm_objects.specs.Seen.{table_of}
 use Rattle.osm_objects.proofs.Results.{after_nil, bind_is, bind_stop}
 use Rattle.osm_objects.proofs.Exits.{Answers-exit}
-use Rattle.osm_objects.proofs.KeysValues.{GroupSoFar, group-pair, behind-pair, group_read-is, group_read-fault, ended-closed, ended-cut, ended-all}
+use Rattle.osm_objects.proofs.KeysValues.{group-pair, behind-pair, group_read-is, group_read-fault, ended-closed, ended-cut, ended-all}
 use Rattle.osm_objects.proofs.groups.read_group.Goals as goal
 
 pub loop-key-init : goal.loop-key-init

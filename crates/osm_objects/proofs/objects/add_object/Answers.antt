@@ -1,4 +1,4 @@
-use Rattle.std.proofs.Common.{◌≡◌, ◌∙◌, ap, sym, refl}
+use Rattle.std.proofs.Common.{◌∙◌, sym}
 use Rattle.osm_messages.specs.Lists.{seen_lists}
 use Rattle.osm_messages.specs.Seen.{seen_object}
 use Rattle.osm_objects.specs.Seen.{table_of, seen_objects}

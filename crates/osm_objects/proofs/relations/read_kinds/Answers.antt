@@ -1,5 +1,5 @@
-use Rattle.std.proofs.Common.{rules, ℕ, ◌≡◌, ◌<◌, ◌≤◌, ◌∙◌, length, arith, ap, sym, refl, Ok, Err, drop, ◌++◌, ◌+◌, ◌∷◌, []}
-use Rattle.osm_objects.specs.Steps.{each, ◌>>=◌}
+use Rattle.std.proofs.Common.{ℕ, ◌∙◌, arith, ap, sym, refl, drop, ◌+◌}
+use Rattle.osm_objects.specs.Steps.{each}
 use Rattle.osm_objects.specs.Relations.{kind_of}
 use Rattle.osm_objects.specs.Answers.{after}
 use Rattle.osm_objects.proofs.Results.{after_nil, bind_is, bind_stop}

@@ -1,4 +1,4 @@
-use Rattle.std.proofs.Common.{rules, ◌≡◌, ◌<◌, ◌≤◌, ◌∙◌, length, arith, ap, sym, refl, Ok, Err, ◌+◌, List, ℕ, ℤ, pos, get_or, to_z, of_z, w64, FitsSigned}
+use Rattle.std.proofs.Common.{rules, ◌∙◌, arith, ap, sym, refl, Ok, ◌+◌, pos, get_or, w64, FitsSigned}
 use Rattle.std.proofs.lemmas.Int.{to_z-of_z}
 use Rattle.osm_model.specs.declared.relations.MemberKind.TheVariants.{Node}
 use Rattle.osm_objects.specs.Relations.{members_of}
@@ -6,7 +6,7 @@ use Rattle.osm_objects.specs.Seen.{table_of}
 use Rattle.osm_objects.specs.Answers.{after}
 use Rattle.osm_objects.proofs.Results.{after_nil, bind_is, bind_stop}
 use Rattle.osm_objects.proofs.Exits.{Answers-exit}
-use Rattle.osm_objects.proofs.Loops.{Going, members_left, members-more, members-end}
+use Rattle.osm_objects.proofs.Loops.{members_left, members-more, members-end}
 use Rattle.osm_objects.proofs.relations.read_members.Goals as goal
 
 pub loop-i-init : goal.loop-i-init

@@ -1,4 +1,4 @@
-use Rattle.std.proofs.Common.{◌≡◌, ◌∙◌, ap, sym, length, IsOk, Ok, ℕ}
+use Rattle.std.proofs.Common.{◌≡◌, ◌∙◌, ap, sym, length, IsOk, Ok}
 use Rattle.osm_objects.specs.Parts.{as_many}
 use Rattle.osm_objects.specs.Steps.{each}
 use Rattle.osm_objects.specs.Sums.{sums_of}

@@ -1,4 +1,4 @@
-use Rattle.std.proofs.Common.{rules, ◌≡◌, ℤ, pos, ◌+ℤ◌, ◌*ℤ◌, FitsSigned, to_z, of_z, w64, ap, sym, ◌∙◌}
+use Rattle.std.proofs.Common.{◌≡◌, pos, FitsSigned, to_z, of_z, w64, ap, ◌∙◌}
 use Rattle.std.specs.Int.{w128, int_div_euclid}
 use Rattle.std.proofs.lemmas.Int.{to_z-of_z}
 use Rattle.osm_objects.specs.Scales.{units_of}

@@ -1,7 +1,6 @@
-use Rattle.std.proofs.Common.{rules, ◌≡◌, ◌<◌, ◌≤◌, ◌∙◌, length, arith, ℤ, pos, FitsSigned, w64, ◌+ℤ◌, ap, sym, refl}
+use Rattle.std.proofs.Common.{rules, ◌∙◌, arith, FitsSigned, w64, refl}
 use Rattle.std.proofs.lemmas.Int.{to_z-of_z}
-use Rattle.osm_objects.specs.Sums.{sums_of}
-use Rattle.osm_objects.proofs.SumsSoFar.{sums_left, sums-begun, sums-pushed, sums-past, sums-end}
+use Rattle.osm_objects.proofs.SumsSoFar.{sums-begun, sums-pushed, sums-past, sums-end}
 use Rattle.osm_objects.proofs.sums.sum_up.Goals as goal
 
 pub loop-i-init : goal.loop-i-init

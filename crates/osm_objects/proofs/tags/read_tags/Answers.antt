@@ -1,12 +1,10 @@
-use Rattle.std.proofs.Common.{rules, ◌≡◌, ◌<◌, ◌≤◌, ◌∙◌, length, arith, ap, sym, refl, Ok, Err, ◌+◌, List, ℕ}
+use Rattle.std.proofs.Common.{◌∙◌, arith, ap, sym, refl, Ok}
 use Rattle.std.specs.List.{zip}
-use Rattle.osm_objects.specs.Steps.{◌>>=◌}
-use Rattle.osm_objects.specs.Tags.{tags_of, tag_of}
+use Rattle.osm_objects.specs.Tags.{tags_of}
 use Rattle.osm_objects.specs.Seen.{table_of}
-use Rattle.osm_objects.specs.Answers.{after}
 use Rattle.osm_objects.proofs.Results.{after_nil, bind_is, bind_stop}
 use Rattle.osm_objects.proofs.Exits.{Answers-exit}
-use Rattle.osm_objects.proofs.Loops.{Going, tags_left, tags-more, tags-end}
+use Rattle.osm_objects.proofs.Loops.{tags-more, tags-end}
 use Rattle.osm_objects.proofs.tags.read_tags.Goals as goal
 
 pub loop-i-init : goal.loop-i-init

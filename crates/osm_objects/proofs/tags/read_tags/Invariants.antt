@@ -1,4 +1,3 @@
-use Rattle.std.proofs.Common.{◌≡◌}
 use Rattle.std.specs.List.{zip}
 use Rattle.osm_objects.specs.Tags.{tags_of}
 use Rattle.osm_objects.specs.Seen.{table_of}

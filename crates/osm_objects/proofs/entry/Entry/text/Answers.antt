@@ -1,8 +1,7 @@
-use Rattle.std.proofs.Common.{rules, ◌≡◌, ◌∙◌, ap, sym, Ok, Err, List, ℕ, Some, true}
+use Rattle.std.proofs.Common.{◌≡◌, ◌∙◌, ap, sym, Ok, List, ℕ, Some, true}
 use Rattle.std.specs.Str.{is_utf8}
 use Rattle.std.proofs.lemmas.Str.{is_utf8-from_IsUtf8}
-use Rattle.osm_objects.specs.Tags.{as_text}
-use Rattle.osm_objects.proofs.Utf8.{as_text-good, as_text-is, as_text-not}
+use Rattle.osm_objects.proofs.Utf8.{as_text-is, as_text-not}
 use Rattle.osm_objects.proofs.entry.Entry.text.Goals as goal
 use Rattle.osm_objects.proofs.entry.Entry.text.Goals.{in-Some-1, in-None-1}
 

@@ -1,6 +1,4 @@
-use Rattle.std.proofs.Common.{rules, ◌≡◌, ℤ, pos, true, false, FitsSigned, to_z, of_z, w32, w64, ap, sym, ◌∙◌}
-use Rattle.std.proofs.lemmas.Int.{to_z-of_z}
-use Rattle.osm_objects.specs.Scales.{units_of, is_within}
+use Rattle.std.proofs.Common.{rules}
 use Rattle.osm_objects.proofs.Places.{placed_at, lat_outside, lon_outside}
 use Rattle.osm_objects.proofs.scale.Scale.place.Goals as goal
 

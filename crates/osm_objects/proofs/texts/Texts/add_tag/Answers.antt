@@ -1,5 +1,5 @@
-use Rattle.std.proofs.Common.{rules, ◌≡◌, ◌∙◌, ap, sym, Ok, Err, true, false}
-use Rattle.osm_objects.specs.Tags.{text_at, keeps, tag_of}
+use Rattle.std.proofs.Common.{◌≡◌, ◌∙◌, ap, sym, Ok, true, false}
+use Rattle.osm_objects.specs.Tags.{keeps}
 use Rattle.osm_objects.specs.Seen.{table_of}
 use Rattle.osm_objects.proofs.Exits.{Becomes-exit, Becomes-admitted}
 use Rattle.osm_objects.proofs.OneTag.{after-no_key, after-dropped, after-dropped_fault, after-no_text, after-no_value, after-kept}
