@@ -4,6 +4,7 @@ use crate::read::read_extract;
 use host_port::{Bytes, Host, MemHost, Text};
 use osm_model::{Extract, MemberKind, TagText, value};
 use std::alloc::{AllocError, Global};
+use std::ops::Range;
 use std::test::Fail;
 use wire_read::WireFault;
 
@@ -396,6 +397,51 @@ fn limits(rt: HostRuntime) {
     ] {
         assert!(rt; past_by(more) == past, "{more:?}");
     }
+}
+
+// A number below 2^21 in three bytes, longer than need be where it is small.
+fn push_number(bytes: &mut Vec<u8>, number: u64) -> Result<(), AllocError> {
+    bytes.push((number % 128) as u8 + 128)?;
+    bytes.push((number / 128 % 128) as u8 + 128)?;
+    bytes.push((number / 16_384 % 128) as u8)?;
+    Ok(())
+}
+
+// A data triple of relations that are ids alone: its block is a table without texts, and one group.
+fn push_relations(alloc: Global, bytes: &mut Vec<u8>, ids: Range<u64>) -> Result<(), AllocError> {
+    let mut group = Vec::new(alloc);
+    for id in ids {
+        group.extend_from_slice(b"\x22\x04\x08")?;
+        push_number(&mut group, id)?;
+    }
+    let size = group.len() as u64;
+    bytes.extend_from_slice(b"\x00\x00\x00\x0d\x0a\x07OSMData\x18")?;
+    push_number(bytes, size + 10)?;
+    bytes.push(0x0a)?;
+    push_number(bytes, size + 6)?;
+    bytes.extend_from_slice(b"\x0a\x00\x12")?;
+    push_number(bytes, size)?;
+    bytes.extend_from_slice(&group)
+}
+
+// What a file of so many relations gives, in two blocks: the number of its relations, or its fault.
+fn relations_read(alloc: Global, count: u64) -> Result<Result<usize, ExtractFault>, AllocError> {
+    let mut bytes = Vec::from_slice(alloc, &TWO_NODES[..DATA])?;
+    push_relations(alloc, &mut bytes, 0..250_000)?;
+    push_relations(alloc, &mut bytes, 250_000..count)?;
+    let found = read_bytes(alloc, &bytes, 65_536, None)?;
+    Ok(found.map(|extract| extract.relations.len()))
+}
+
+#[test]
+fn most_relations(rt: HostRuntime) -> Result<(), Fail> {
+    assert_eq!(rt; relations_read(rt.alloc(), 500_000)?, Ok(500_000));
+    let many = ExtractFault::TooMany {
+        what: Counted::Relations,
+        count: 500_001,
+    };
+    assert_eq!(rt; relations_read(rt.alloc(), 500_001)?, Err(many));
+    Ok(())
 }
 
 // The calls of the host are numbered from 0, the opening of the input. The last one finds the end.
