@@ -13,13 +13,16 @@ use Rattle.road_pieces.specs.declared.rows.Roads.{Roads}
 use Rattle.road_pieces.specs.declared.faults.CutFault.{CutFault}
 use Rattle.road_pieces.specs.declared.faults.CutFault.TheVariants as cut_faults
 use Rattle.road_pieces.specs.Runs.{is_junction}
+use Rattle.road_pieces.specs.ListWalks.{listed}
 use Rattle.road_pieces.specs.Rows.{junction_row, junction_rows, piece_rows, refusal}
 use Rattle.mjolnir_cli.specs.declared.failure.Failure.{Failure}
 use Rattle.mjolnir_cli.specs.Failures.{cause_of, of_cut}
 use Rattle.mjolnir_cli.specs.Answers.{Spells, IsCut, IsBuilt, IsNotBuilt, IsOfExtract}
 use Rattle.mjolnir_cli.specs.declared.answer.Answer.{Answer}
 use Rattle.mjolnir_cli.specs.Words.{list_path}
-use Rattle.mjolnir_cli.specs.PlainList.{list_of}
+use Rattle.mjolnir_cli.specs.PlainList.{list_of, plain_list}
+use Rattle.mjolnir_cli.specs.ListReading.{pieces_told}
+use Rattle.mjolnir_cli.specs.RoadLists.{TellsPieces}
 use Rattle.mjolnir_cli.specs.Listing.{IfOfInput}
 use Rattle.mjolnir_cli.specs.Unbuilt.{unbuilt}
 
@@ -75,6 +78,10 @@ pub if_placed : (x : Extract) (answer : Result Roads Failure) → All IsPlaced x
 if_placed x (Ok roads) placed junctions = subst (All (λ junction. IsPlace junction.at)) (sym junctions) (placed_rows x placed)
 if_placed x (Err failure) placed junctions = tt
 
+-- the list of roads that were cut is that of their extract
+list_is_of : {bytes : List ℕ} (roads : Roads) (is : IsCut bytes roads.junctions roads.pieces) → list_of roads.junctions roads.pieces ≡ plain_list is.extract
+list_is_of roads is = ap (λ js. list_of js roads.pieces) is.junctions_are ∙ ap (λ ps. list_of (junction_rows is.extract) ps) is.pieces_are
+
 -- the answer for roads that were cut
 pub built_of : (output bytes : List ℕ) (roads : Roads) (answer : Answer) → IsCut bytes roads.junctions roads.pieces → answer.files ≡ (list_path output, list_of roads.junctions roads.pieces) ∷ [] → answer.text ≡ [] → IsBuilt output bytes answer
 built_of output bytes roads answer is files text = record {
@@ -82,9 +89,21 @@ built_of output bytes roads answer is files text = record {
   spelled = is.spelled;
   built = is.built;
   within = is.within;
-  files = files ∙ ap (λ list. (list_path output, list) ∷ []) (ap (λ js. list_of js roads.pieces) is.junctions_are ∙ ap (λ ps. list_of (junction_rows is.extract) ps) is.pieces_are);
+  files = files ∙ ap (λ list. (list_path output, list) ∷ []) (list_is_of roads is);
   silent = text;
 }
+
+-- the list of roads that were cut tells their pieces
+pub tells_pieces : (output bytes : List ℕ) (roads : Roads) (answer : Answer) → IsCut bytes roads.junctions roads.pieces → answer.files ≡ (list_path output, list_of roads.junctions roads.pieces) ∷ []
+    → pieces_told (list_of roads.junctions roads.pieces) ≡ map listed roads.pieces → TellsPieces output bytes answer
+tells_pieces output bytes roads answer is files told =
+    let list_is = list_is_of roads is in
+    record {
+      extract = is.extract;
+      spelled = is.spelled;
+      files = files ∙ ap (λ list. (list_path output, list) ∷ []) list_is;
+      told = ap pieces_told (sym list_is) ∙ (told ∙ ap (map listed) is.pieces_are);
+    }
 
 pub if_refused : (bytes : List ℕ) (x : Extract) (answer : Result Roads Failure) → IfErr answer (λ failure. IsOfExtract failure x) → Spells bytes x → IfErr answer (λ failure. IfOfInput (cause_of failure) (IsNotBuilt bytes failure))
 if_refused bytes x (Ok roads) is spelled = tt

@@ -6,3 +6,5 @@ pub mod OneEnd
 pub mod Cutting
 pub mod Stored
 pub mod Ends
+pub mod PiecesTold
+mod WorkedLists

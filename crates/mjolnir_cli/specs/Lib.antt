@@ -5,6 +5,7 @@ pub mod Failures
 pub mod PlainList
 pub mod Unbuilt
 pub mod Answers
+pub mod ListReading
 pub mod RoadLists
 pub mod Puts
 pub mod Said

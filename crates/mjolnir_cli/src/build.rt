@@ -1,16 +1,19 @@
 //! The command `build`: the list of the plain roads of an extract.
 
-ghost use Rattle.std.specs.Prelude.{◌≡◌, ℕ, List, [], ◌∷◌, length, All, Some, None, IsSome, false, IfOk, IfErr, OnOk};
+ghost use Rattle.std.specs.Prelude.{◌≡◌, ℕ, List, [], ◌∷◌, length, map, All, Some, None, IsSome, false, IfOk, IfErr, OnOk};
 ghost use Rattle.fixed_geo.specs.Place.{IsPlace};
 ghost use Rattle.host_port.specs.Told.{named};
 ghost use Rattle.pbf_blobs.specs.Input.{OnlyMoved};
+ghost use Rattle.road_pieces.specs.ListWalks.{listed};
 ghost use Rattle.road_pieces.specs.Rows.{junction_rows, piece_rows, refusal};
 ghost use Rattle.mjolnir_cli.specs.Words.{list_path};
 ghost use Rattle.mjolnir_cli.specs.Unbuilt.{unbuilt};
 ghost use Rattle.mjolnir_cli.specs.Failures.{cause_of};
 ghost use Rattle.mjolnir_cli.specs.Puts.{paths};
 ghost use Rattle.mjolnir_cli.specs.PlainList.{list_of};
+ghost use Rattle.mjolnir_cli.specs.ListReading.{pieces_told};
 ghost use Rattle.mjolnir_cli.specs.Answers.{IsBuilt, IsNotBuilt, IsCut, IsOfExtract};
+ghost use Rattle.mjolnir_cli.specs.RoadLists.{TellsPieces};
 ghost use Rattle.mjolnir_cli.specs.Listing.{IfOfInput, IsMet, CountedRead, IfRead, OnlyRead};
 
 use crate::answer::Answer;
@@ -32,6 +35,7 @@ pub(crate) fn plain_roads<H: Host>(
     host: &mut H,
 ) -> Result<Answer, Failure>
     ensures built { IfOk result (λ answer. (bytes : List ℕ) → named input.now (H.told host.old) ≡ Some bytes → IsBuilt output.now bytes answer) }
+    ensures told { IfOk result (λ answer. (bytes : List ℕ) → named input.now (H.told host.old) ≡ Some bytes → TellsPieces output.now bytes answer) }
     ensures paths { IfOk result (λ answer. paths answer.files ≡ list_path output.now ∷ []) }
     ensures whole { OnOk result ((bytes : List ℕ) → named input.now (H.told host.old) ≡ Some bytes → (H.told host.new).place ≡ Some (length bytes)) }
     ensures refused { IfErr result (λ failure. (bytes : List ℕ) → named input.now (H.told host.old) ≡ Some bytes → IfOfInput (cause_of failure) (IsNotBuilt bytes failure)) }
@@ -113,7 +117,8 @@ fn built_roads(alloc: Global, extract: &Extract) -> Result<Roads, Failure>
 /// The file of the list of these roads, in the folder `output`.
 fn list_file(alloc: Global, output: &str, roads: &Roads) -> Result<HostFiles, AllocError>
     requires { All (λ junction. IsPlace junction.at) roads.now.junctions }
-    ensures { IfOk result (λ files. files ≡ (list_path output.now, list_of roads.now.junctions roads.now.pieces) ∷ []) }
+    ensures files { IfOk result (λ files. files ≡ (list_path output.now, list_of roads.now.junctions roads.now.pieces) ∷ []) }
+    ensures told { OnOk result (pieces_told (list_of roads.now.junctions roads.now.pieces) ≡ map listed roads.now.pieces) }
 {
     let path = format!(in alloc; "{output}/plain.lst")?;
     let list = plain_text(alloc, roads)?;

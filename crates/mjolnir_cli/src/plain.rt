@@ -1,9 +1,11 @@
 //! The text of the list of plain roads.
 
-ghost use Rattle.std.specs.Prelude.{◌≡◌, ◌++◌, flat_map, All, IfOk, OnOk};
+ghost use Rattle.std.specs.Prelude.{◌≡◌, ◌++◌, map, flat_map, All, IfOk, OnOk};
 ghost use Rattle.std.specs.String.{string_bytes};
 ghost use Rattle.fixed_geo.specs.Place.{IsPlace};
+ghost use Rattle.road_pieces.specs.ListWalks.{listed};
 ghost use Rattle.mjolnir_cli.specs.PlainList.{tile_value, junction_line, piece_line, list_of};
+ghost use Rattle.mjolnir_cli.specs.ListReading.{pieces_told, IsTold};
 
 use fixed_geo::Point;
 use graph_id::GraphId;
@@ -14,7 +16,8 @@ use tile_geometry::tile_of;
 /// The list of these roads: a line for each junction, then a line for each piece.
 pub(crate) fn plain_text(alloc: Global, roads: &Roads) -> Result<String, AllocError>
     requires { All (λ junction. IsPlace junction.at) roads.now.junctions }
-    ensures { IfOk result (λ text. string_bytes text ≡ list_of roads.now.junctions roads.now.pieces) }
+    ensures list { IfOk result (λ text. string_bytes text ≡ list_of roads.now.junctions roads.now.pieces) }
+    ensures told { OnOk result (pieces_told (list_of roads.now.junctions roads.now.pieces) ≡ map listed roads.now.pieces) }
 {
     let mut text = String::from_str(alloc, "mjolnir-plain 1\n")?;
     push_junctions(&mut text, roads.junctions.as_slice())?;
@@ -35,7 +38,8 @@ fn push_junctions(text: &mut String, junctions: &[Junction]) -> Result<(), Alloc
 
 /// Adds the lines of these pieces.
 fn push_pieces(text: &mut String, pieces: &[Piece]) -> Result<(), AllocError>
-    ensures { OnOk result (string_bytes text.new ≡ string_bytes text.old ++ flat_map piece_line pieces.now) }
+    ensures lines { OnOk result (string_bytes text.new ≡ string_bytes text.old ++ flat_map piece_line pieces.now) }
+    ensures told { OnOk result (All IsTold pieces.now) }
 {
     for piece in pieces {
         push_piece(text, piece)?;
@@ -53,13 +57,15 @@ fn push_junction(text: &mut String, junction: &Junction) -> Result<(), AllocErro
 
 /// Adds the line of a piece: its way, run and number, the junctions at its ends and its length.
 fn push_piece(text: &mut String, piece: &Piece) -> Result<(), AllocError>
-    ensures { OnOk result (string_bytes text.new ≡ string_bytes text.old ++ piece_line piece.now) }
+    ensures line { OnOk result (string_bytes text.new ≡ string_bytes text.old ++ piece_line piece.now) }
+    ensures told { IsTold piece.now }
 {
     let key = piece.key;
+    let (start, end, cm) = (piece.start, piece.end, piece.cm);
     writeln!(
         text,
         "p {} {} {} {} {} {}",
-        key.way, key.run, key.piece, piece.start, piece.end, piece.cm
+        key.way, key.run, key.piece, start, end, cm
     )
 }
 

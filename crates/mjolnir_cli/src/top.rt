@@ -11,7 +11,7 @@ ghost use Rattle.mjolnir_cli.specs.Words.{Request, Blobs, Build, asked_by, input
 ghost use Rattle.mjolnir_cli.specs.Commands.{request_of};
 ghost use Rattle.mjolnir_cli.specs.Failures.{cause_of, status_of, line_of};
 ghost use Rattle.mjolnir_cli.specs.Answers.{IsAnswer, IsRefused};
-ghost use Rattle.mjolnir_cli.specs.RoadLists.{ListsRoads};
+ghost use Rattle.mjolnir_cli.specs.RoadLists.{ListsRoads, TellsItsPieces};
 ghost use Rattle.mjolnir_cli.specs.Puts.{PutsAll, BeginsWith, IsFront, paths};
 ghost use Rattle.mjolnir_cli.specs.Listing.{IfOfInput, IsMet, CountedRead, IfRead, OnlyRead};
 ghost use Rattle.mjolnir_cli.specs.Said.{Asks, HasItsInput, Adds, SaysLine, Unput, IsStatus, IsRefusal};
@@ -63,7 +63,7 @@ pub fn mjolnir<R: Threads + Sync, H: Host, G: Gate>(
     ensures paths { result ≡ 0 → (request : Request) → asked_by (map string_bytes words.now) ≡ Some request
         → (H.told host.new).puts ≡ option_map (λ puts. puts ++ paths_of request) (H.told host.old).puts }
 
-    // The file that `build` puts lists the roads of the extract, and its pieces have exactly their walks.
+    // The file that `build` puts lists the roads of the extract, and what its bytes tell has exactly their walks.
     ensures lists { result ≡ 0 → (input output bytes : List ℕ) → Asks (asked_by (map string_bytes words.now)) (H.told host.old) (Build input output) bytes
         → ListsRoads (list_path output) bytes (H.told host.new) }
 
@@ -136,6 +136,7 @@ pub fn mjolnir<R: Threads + Sync, H: Host, G: Gate>(
 /// Runs the command up to the files that are to be put and the text that is to be said.
 fn run<H: Host>(alloc: Global, command: Command<'_>, host: &mut H) -> Result<Answer, Failure>
     ensures answered { IfOk result (λ answer. (bytes : List ℕ) → named (input_of (request_of command.entry)) (H.told host.old) ≡ Some bytes → IsAnswer (request_of command.entry) bytes answer) }
+    ensures told { IfOk result (λ answer. (bytes : List ℕ) → named (input_of (request_of command.entry)) (H.told host.old) ≡ Some bytes → TellsItsPieces (request_of command.entry) bytes answer) }
     ensures paths { IfOk result (λ answer. paths answer.files ≡ paths_of (request_of command.entry)) }
     ensures whole { OnOk result ((bytes : List ℕ) → named (input_of (request_of command.entry)) (H.told host.old) ≡ Some bytes → (H.told host.new).place ≡ Some (length bytes)) }
     ensures refused { IfErr result (λ failure. (bytes : List ℕ) → named (input_of (request_of command.entry)) (H.told host.old) ≡ Some bytes → IfOfInput (cause_of failure) (IsRefused (request_of command.entry) bytes failure)) }

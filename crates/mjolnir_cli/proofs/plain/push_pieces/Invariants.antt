@@ -1,10 +1,15 @@
--- The lines so far and those of the pieces that are left are all lines.
-use Rattle.std.proofs.Common.{◌≡◌, ◌++◌, drop}
+-- The lines so far and those of the pieces that are left are all lines; each piece so far is told by its line.
+use Rattle.std.proofs.Common.{◌≡◌, ◌++◌, take, drop}
+use Rattle.std.specs.Prelude.{All}
 use Rattle.std.specs.List.{flat_map}
 use Rattle.std.specs.String.{string_bytes}
 use Rattle.mjolnir_cli.specs.PlainList.{piece_line}
+use Rattle.mjolnir_cli.specs.ListReading.{IsTold}
 use Rattle.mjolnir_cli.proofs.plain.push_pieces.Given as goal
 
 abbrev pub invariant-loop-piece : goal.invariant-loop-piece
 invariant-loop-piece l =
-    string_bytes l.text ++ flat_map piece_line (drop l.piece-index l.pieces) ≡ string_bytes l.fn.text ++ flat_map piece_line l.pieces
+    record {
+      lines : string_bytes l.text ++ flat_map piece_line (drop l.piece-index l.pieces) ≡ string_bytes l.fn.text ++ flat_map piece_line l.pieces;
+      told : All IsTold (take l.piece-index l.pieces);
+    }

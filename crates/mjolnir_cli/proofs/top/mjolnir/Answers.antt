@@ -10,7 +10,7 @@ pub returns-in-Ok-clause-lists : goal.returns-in-Ok-clause-lists
 returns-in-Ok-clause-lists g c = λ zero input output bytes asks.
     let told = g.H.Host.told in
     lists _ (request_of c.in-Some.command) input output bytes c.in-Ok.answer (told c.args.host.now) (told c.run.new.host) (told c.deliver.new.host) c.list_agrees.ensures
-    (sym c.asked.ensures ∙ ap (option_map request_of) c.in-Some.is) c.in-Ok.ensures.answered c.in-Ok.ensures.others.files c.in-Ok.ensures.others.puts (c.deliver.ensures.done zero) asks
+    (sym c.asked.ensures ∙ ap (option_map request_of) c.in-Some.is) c.in-Ok.ensures.told c.in-Ok.ensures.others.files c.in-Ok.ensures.others.puts (c.deliver.ensures.done zero) asks
 
 pub returns-in-Ok-clause-blobs_unput : goal.returns-in-Ok-clause-blobs_unput
 returns-in-Ok-clause-blobs_unput g c = λ path blobs.
