@@ -17,7 +17,7 @@ use Rattle.road_pieces.specs.ListWalks.{listed}
 use Rattle.road_pieces.specs.Rows.{junction_row, junction_rows, piece_rows, refusal}
 use Rattle.mjolnir_cli.specs.declared.failure.Failure.{Failure}
 use Rattle.mjolnir_cli.specs.Failures.{cause_of, of_cut}
-use Rattle.mjolnir_cli.specs.Answers.{Spells, IsCut, IsBuilt, IsNotBuilt, IsOfExtract}
+use Rattle.mjolnir_cli.specs.Answers.{Spells, IsCut, IsBuilt, IsBuildRefused, IsOfExtract}
 use Rattle.mjolnir_cli.specs.declared.answer.Answer.{Answer}
 use Rattle.mjolnir_cli.specs.Words.{list_path}
 use Rattle.mjolnir_cli.specs.PlainList.{list_of, plain_list}
@@ -46,14 +46,14 @@ kept test (n ∷ ns) placed = by (test n) (kept test ns (All-tail IsPlaced n ns 
 pub placed_rows : (x : Extract) → All IsPlaced x.nodes → All (λ junction. IsPlace junction.at) (junction_rows x)
 placed_rows x placed = kept (λ n. is_junction x n.id) x.nodes placed
 
-passed_so : (bytes : List ℕ) (x : Extract) (fault : CutFault) → Spells bytes x → unbuilt x ≡ None → refusal (piece_rows x) ≡ Some fault → IfOfInput (cause_of (of_cut fault)) (IsNotBuilt bytes (of_cut fault))
+passed_so : (bytes : List ℕ) (x : Extract) (fault : CutFault) → Spells bytes x → unbuilt x ≡ None → refusal (piece_rows x) ≡ Some fault → IfOfInput (cause_of (of_cut fault)) (IsBuildRefused bytes (of_cut fault))
 passed_so bytes x (cut_faults.TooManyPieces count) spelled built is = record { extract = x; spelled = spelled; built = built; passed = is }
 passed_so bytes x (cut_faults.EdgeTooLong way run piece cm) spelled built is = record { extract = x; spelled = spelled; built = built; passed = is }
 passed_so bytes x cut_faults.OutOfMemory spelled built is = tt
 
 -- what is refused so for an input of these bytes
 abbrev IsRefusedSo : List ℕ → Failure → Type 0
-IsRefusedSo bytes failure = IfOfInput (cause_of failure) (IsNotBuilt bytes failure)
+IsRefusedSo bytes failure = IfOfInput (cause_of failure) (IsBuildRefused bytes failure)
 
 -- a failure of an extract is an object that isn't built, a limit that its roads pass, or want of memory
 refused_so : (bytes : List ℕ) (x : Extract) (failure : Failure) → Spells bytes x → IsOfExtract failure x → IsRefusedSo bytes failure
@@ -105,7 +105,7 @@ tells_pieces output bytes roads answer is files told =
       told = ap pieces_told (sym list_is) ∙ (told ∙ ap (map listed) is.pieces_are);
     }
 
-pub if_refused : (bytes : List ℕ) (x : Extract) (answer : Result Roads Failure) → IfErr answer (λ failure. IsOfExtract failure x) → Spells bytes x → IfErr answer (λ failure. IfOfInput (cause_of failure) (IsNotBuilt bytes failure))
+pub if_refused : (bytes : List ℕ) (x : Extract) (answer : Result Roads Failure) → IfErr answer (λ failure. IsOfExtract failure x) → Spells bytes x → IfErr answer (λ failure. IfOfInput (cause_of failure) (IsBuildRefused bytes failure))
 if_refused bytes x (Ok roads) is spelled = tt
 if_refused bytes x (Err failure) is spelled = refused_so bytes x failure spelled is
 

@@ -87,12 +87,12 @@ pub record PassesLimit (bytes : List ℕ) (limit : CutFault) : Type 0 where
   pub passed : refusal (piece_rows extract) ≡ Some limit
 
 -- The bytes are refused with a fault, or an object isn't built yet, or a limit is passed.
-abbrev pub IsNotBuilt : List ℕ → Failure → Type 0
-IsNotBuilt bytes (ExtractFails fault) = Refuses bytes fault
-IsNotBuilt bytes (NotBuilt kind id) = HasUnbuilt bytes kind id
-IsNotBuilt bytes (Pieces count) = PassesLimit bytes (cut_faults.TooManyPieces count)
-IsNotBuilt bytes (EdgeTooLong way run piece cm) = PassesLimit bytes (cut_faults.EdgeTooLong way run piece cm)
-IsNotBuilt bytes other = ⊥
+abbrev pub IsBuildRefused : List ℕ → Failure → Type 0
+IsBuildRefused bytes (ExtractFails fault) = Refuses bytes fault
+IsBuildRefused bytes (NotBuilt kind id) = HasUnbuilt bytes kind id
+IsBuildRefused bytes (Pieces count) = PassesLimit bytes (cut_faults.TooManyPieces count)
+IsBuildRefused bytes (EdgeTooLong way run piece cm) = PassesLimit bytes (cut_faults.EdgeTooLong way run piece cm)
+IsBuildRefused bytes other = ⊥
 
 -- what a failure of an extract is: want of memory, an object that isn't built yet, or the limit that its roads pass
 pub record IsUnbuilt (failure : Failure) (x : Extract) : Type 0 where
@@ -120,7 +120,7 @@ IsAnswer (Build input output) bytes answer = IsBuilt output bytes answer
 -- An input of these bytes is refused with this failure.
 abbrev pub IsRefused : Request → List ℕ → Failure → Type 0
 IsRefused (Blobs path) bytes failure = StopsAt bytes failure
-IsRefused (Build input output) bytes failure = IsNotBuilt bytes failure
+IsRefused (Build input output) bytes failure = IsBuildRefused bytes failure
 
 -- A request ends so for an input of these bytes: with this answer, or refused with this failure.
 abbrev pub EndsSo : Request → List ℕ → Result Answer Failure → Type 0

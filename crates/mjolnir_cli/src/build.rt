@@ -12,7 +12,7 @@ ghost use Rattle.mjolnir_cli.specs.Failures.{cause_of};
 ghost use Rattle.mjolnir_cli.specs.Puts.{paths};
 ghost use Rattle.mjolnir_cli.specs.PlainList.{list_of};
 ghost use Rattle.mjolnir_cli.specs.ListReading.{pieces_told};
-ghost use Rattle.mjolnir_cli.specs.Answers.{IsBuilt, IsNotBuilt, IsCut, IsOfExtract};
+ghost use Rattle.mjolnir_cli.specs.Answers.{IsBuilt, IsBuildRefused, IsCut, IsOfExtract};
 ghost use Rattle.mjolnir_cli.specs.RoadLists.{TellsPieces};
 ghost use Rattle.mjolnir_cli.specs.Listing.{IfOfInput, IsMet, CountedRead, IfRead, OnlyRead};
 
@@ -38,7 +38,7 @@ pub(crate) fn plain_roads<H: Host>(
     ensures told { IfOk result (λ answer. (bytes : List ℕ) → named input.now (H.told host.old) ≡ Some bytes → TellsPieces output.now bytes answer) }
     ensures paths { IfOk result (λ answer. paths answer.files ≡ list_path output.now ∷ []) }
     ensures whole { OnOk result ((bytes : List ℕ) → named input.now (H.told host.old) ≡ Some bytes → (H.told host.new).place ≡ Some (length bytes)) }
-    ensures refused { IfErr result (λ failure. (bytes : List ℕ) → named input.now (H.told host.old) ≡ Some bytes → IfOfInput (cause_of failure) (IsNotBuilt bytes failure)) }
+    ensures refused { IfErr result (λ failure. (bytes : List ℕ) → named input.now (H.told host.old) ≡ Some bytes → IfOfInput (cause_of failure) (IsBuildRefused bytes failure)) }
     ensures met { IfErr result (λ failure. IsMet (cause_of failure)) }
     ensures others { OnlyRead (H.told host.old) (H.told host.new) }
     ensures reads { CountedRead (H.read_faults host.old) (H.read_faults host.new) result }
@@ -64,7 +64,7 @@ fn roads_in<H: Host>(alloc: Global, input: &str, host: &mut H) -> Result<Roads, 
     ensures roads { IfOk result (λ roads. (bytes : List ℕ) → named input.now (H.told host.old) ≡ Some bytes → IsCut bytes roads.junctions roads.pieces) }
     ensures placed { IfOk result (λ roads. All (λ junction. IsPlace junction.at) roads.junctions) }
     ensures whole { OnOk result ((bytes : List ℕ) → named input.now (H.told host.old) ≡ Some bytes → (H.told host.new).place ≡ Some (length bytes)) }
-    ensures refused { IfErr result (λ failure. (bytes : List ℕ) → named input.now (H.told host.old) ≡ Some bytes → IfOfInput (cause_of failure) (IsNotBuilt bytes failure)) }
+    ensures refused { IfErr result (λ failure. (bytes : List ℕ) → named input.now (H.told host.old) ≡ Some bytes → IfOfInput (cause_of failure) (IsBuildRefused bytes failure)) }
     ensures met { IfErr result (λ failure. IsMet (cause_of failure)) }
     ensures others { OnlyRead (H.told host.old) (H.told host.new) }
     ensures reads { CountedRead (H.read_faults host.old) (H.read_faults host.new) result }
@@ -82,7 +82,7 @@ fn roads_of<H: Host>(alloc: Global, host: &mut H) -> Result<Roads, Failure>
     ensures roads { IfOk result (λ roads. (bytes : List ℕ) → (H.told host.old).input ≡ Some bytes → (H.told host.old).place ≡ Some 0 → IsCut bytes roads.junctions roads.pieces) }
     ensures placed { IfOk result (λ roads. All (λ junction. IsPlace junction.at) roads.junctions) }
     ensures whole { OnOk result ((bytes : List ℕ) → (H.told host.old).input ≡ Some bytes → (H.told host.old).place ≡ Some 0 → (H.told host.new).place ≡ Some (length bytes)) }
-    ensures refused { IfErr result (λ failure. (bytes : List ℕ) → (H.told host.old).input ≡ Some bytes → (H.told host.old).place ≡ Some 0 → IfOfInput (cause_of failure) (IsNotBuilt bytes failure)) }
+    ensures refused { IfErr result (λ failure. (bytes : List ℕ) → (H.told host.old).input ≡ Some bytes → (H.told host.old).place ≡ Some 0 → IfOfInput (cause_of failure) (IsBuildRefused bytes failure)) }
     ensures met { IfErr result (λ failure. IsMet (cause_of failure)) }
     ensures others { OnlyMoved (H.told host.old) (H.told host.new) }
     ensures reads { CountedRead (H.read_faults host.old) (H.read_faults host.new) result }

@@ -1,6 +1,6 @@
 use Rattle.std.proofs.Common.{◌≡◌, Some, false}
 use Rattle.mjolnir_cli.specs.Failures.{cause_of}
-use Rattle.mjolnir_cli.specs.Answers.{IsCut, IsNotBuilt}
+use Rattle.mjolnir_cli.specs.Answers.{IsCut, IsBuildRefused}
 use Rattle.mjolnir_cli.specs.Listing.{IfOfInput}
 use Rattle.mjolnir_cli.proofs.Causes.{met, counted, if_read, if_input}
 use Rattle.mjolnir_cli.proofs.Cutting.{if_cut, if_placed, if_refused, for_all, for_all_err}
@@ -20,12 +20,12 @@ pub returns-in-Ok-clause-refused : goal.returns-in-Ok-clause-refused
 returns-in-Ok-clause-refused g c =
     let told = g.H.Host.told c.args.host.now in
     let answer = c.built_roads.result in
-    for_all_err answer (λ failure bytes. IfOfInput (cause_of failure) (IsNotBuilt bytes failure)) (λ bytes. told.input ≡ Some bytes) (λ bytes. told.place ≡ Some 0)
+    for_all_err answer (λ failure bytes. IfOfInput (cause_of failure) (IsBuildRefused bytes failure)) (λ bytes. told.input ≡ Some bytes) (λ bytes. told.place ≡ Some 0)
     (λ bytes input place. if_refused bytes c.in-Ok.extract answer c.built_roads.ensures.refused (c.in-Ok.ensures.bytes bytes input place))
 
 pub returns-in-Err-clause-refused : goal.returns-in-Err-clause-refused
 returns-in-Err-clause-refused g c = λ bytes input place.
-    rw c.from.ensures (if_input (IsNotBuilt bytes) c.in-Err.fault (c.in-Err.ensures.bytes bytes input place))
+    rw c.from.ensures (if_input (IsBuildRefused bytes) c.in-Err.fault (c.in-Err.ensures.bytes bytes input place))
 
 pub returns-in-Err-clause-met : goal.returns-in-Err-clause-met
 returns-in-Err-clause-met g c = rw c.from.ensures (met c.in-Err.fault)
