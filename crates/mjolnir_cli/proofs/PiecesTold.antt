@@ -1,16 +1,16 @@
 -- A list of junctions and pieces tells its pieces.
-use Rattle.std.proofs.Common.{◌≡◌, ℕ, zero, suc, ◌+◌, ◌<◌, ◌≤◌, ◌^◌, ◌/◌, ◌%◌, ℤ, pos, negsuc, neg_ℤ, FitsSigned, w64, refl, sym, ap, subst, ◌∙◌, List, [], ◌∷◌, ◌++◌, length, get_or, drop, map, append_assoc, append-nil, arith, ne_eqb, ltb, Bool, true, false, cond, ◌==◌}
-use Rattle.std.specs.Prelude.{All, codes, Some}
-use Rattle.std.specs.List.{slice_split, filter_map, cons_option, flat_map}
+use Rattle.std.proofs.Common.{◌≡◌, ℕ, zero, suc, ◌+◌, ◌<◌, ◌^◌, ◌/◌, ◌%◌, ℤ, pos, negsuc, neg_ℤ, FitsSigned, w64, refl, sym, ap, ◌∙◌, List, [], ◌∷◌, ◌++◌, length, get_or, drop, map, append_assoc, arith, ne_eqb, ltb, Bool, true, false, cond, ◌==◌}
+use Rattle.std.specs.Prelude.{All, codes}
+use Rattle.std.specs.List.{filter_map, cons_option, flat_map}
 use Rattle.std.specs.Fmt.{decimal, signed_decimal, digits, digits_onto, digit_glyph}
-use Rattle.std.specs.Str.Parse.{digits_value, signed_digits_value, without_leading_plus}
+use Rattle.std.specs.Str.Parse.{digits_value, signed_digits_value}
 use Rattle.std.proofs.Math.Seq.{drop-cons}
 use Rattle.std.proofs.lemmas.List.Elements.{All-nil, All-cons, All-append, All-head, All-tail}
 use Rattle.std.proofs.lemmas.List.Splits.{slice_split_none, slice_split_at}
 use Rattle.std.proofs.lemmas.Fmt.{decimal_is_IsNumeral}
 use Rattle.road_pieces.specs.declared.rows.Junction.{Junction}
 use Rattle.road_pieces.specs.declared.rows.Piece.{Piece}
-use Rattle.road_pieces.specs.ListWalks.{ListedPiece, listed}
+use Rattle.road_pieces.specs.ListWalks.{listed}
 use Rattle.mjolnir_cli.specs.PlainList.{first_line, tile_value, junction_line, piece_line, list_of}
 use Rattle.mjolnir_cli.specs.ListReading.{lines_of, words_of, piece_of_words, piece_told, pieces_told, IsTold}
 

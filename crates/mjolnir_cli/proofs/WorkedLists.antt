@@ -1,7 +1,6 @@
 -- What the bytes of lists tell, computed on lists that were worked out by hand.
 use Rattle.std.proofs.Common.{◌≡◌, ℕ, List, [], ◌∷◌, ◌++◌, refl, pos}
 use Rattle.std.specs.Prelude.{codes, neg_ℤ}
-use Rattle.road_pieces.specs.ListWalks.{ListedPiece}
 use Rattle.mjolnir_cli.specs.ListReading.{pieces_told}
 
 -- a line of this text
@@ -41,7 +40,7 @@ too_many : pieces_told (line (codes "p 10 0 0 1 2 11132 7")) ≡ []
 unfolding pieces_told
 too_many = refl
 
-too_few : pieces_told (line (codes "p 10 0 0 1 2")) ≡ []
+too_few : pieces_told (line (codes "p 10 0 0 1")) ≡ []
 unfolding pieces_told
 too_few = refl
 

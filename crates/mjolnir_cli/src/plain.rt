@@ -13,11 +13,11 @@ use road_pieces::{Junction, Piece, Roads};
 use std::alloc::{AllocError, Global};
 use tile_geometry::tile_of;
 
-/// The list of these roads: a line for each junction, then a line for each piece.
+/// The list of these roads: a line for each junction, then a line for each piece. Its bytes tell the pieces.
 pub(crate) fn plain_text(alloc: Global, roads: &Roads) -> Result<String, AllocError>
     requires { All (λ junction. IsPlace junction.at) roads.now.junctions }
     ensures list { IfOk result (λ text. string_bytes text ≡ list_of roads.now.junctions roads.now.pieces) }
-    ensures told { OnOk result (pieces_told (list_of roads.now.junctions roads.now.pieces) ≡ map listed roads.now.pieces) }
+    ensures told { IfOk result (λ text. pieces_told (string_bytes text) ≡ map listed roads.now.pieces) }
 {
     let mut text = String::from_str(alloc, "mjolnir-plain 1\n")?;
     push_junctions(&mut text, roads.junctions.as_slice())?;
@@ -36,7 +36,7 @@ fn push_junctions(text: &mut String, junctions: &[Junction]) -> Result<(), Alloc
     Ok(())
 }
 
-/// Adds the lines of these pieces.
+/// Adds the lines of these pieces. Each is told by its line.
 fn push_pieces(text: &mut String, pieces: &[Piece]) -> Result<(), AllocError>
     ensures lines { OnOk result (string_bytes text.new ≡ string_bytes text.old ++ flat_map piece_line pieces.now) }
     ensures told { OnOk result (All IsTold pieces.now) }
@@ -55,7 +55,8 @@ fn push_junction(text: &mut String, junction: &Junction) -> Result<(), AllocErro
     writeln!(text, "n {} {}", junction.osm, tile_value(junction.at))
 }
 
-/// Adds the line of a piece: its way, run and number, the junctions at its ends and its length.
+/// Adds the line of a piece: its way, run and number, the junctions at its ends and its length. The line tells
+/// the piece, since its numbers fit into 64 bits.
 fn push_piece(text: &mut String, piece: &Piece) -> Result<(), AllocError>
     ensures line { OnOk result (string_bytes text.new ≡ string_bytes text.old ++ piece_line piece.now) }
     ensures told { IsTold piece.now }
