@@ -96,8 +96,11 @@ fn add_field<'a>(
     }
 }
 
-/// Reads a data block, the first byte of which stands at `at`. Its objects' numbers are looked through, so that
-/// reading them has no fault.
+/// Reads a data block (`PrimitiveBlock` of osmformat.proto), the first byte of which stands at `at`. Its objects'
+/// numbers are looked through, so that reading them has no fault.
+///
+/// The fault is the first in the order of the bytes: `Wire` in the block, its string table, a group, an object or
+/// packed numbers, or `Repeated` for a second string table or a group's second dense message.
 pub fn read_block<'a>(alloc: Global, bytes: &'a [u8], at: u64) -> Result<RawBlock<'a>, MessageFault>
     requires { at + length bytes.now < 2 ^ 64 }
     ensures block { Answers seen_block result (block_in at bytes.now) }

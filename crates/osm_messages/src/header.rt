@@ -28,8 +28,8 @@ fn add_feature<'a>(
     Ok(())
 }
 
-/// The required features of a header block, in order, each with the place of its field's first byte. The block's
-/// first byte stands at `at`.
+/// The required features of a header block (`HeaderBlock` of osmformat.proto), in order, each with the place of its
+/// field's first byte. The block's first byte stands at `at`. The fault is the first one of the wire format.
 pub fn read_features<'a>(
     alloc: Global,
     bytes: &'a [u8],

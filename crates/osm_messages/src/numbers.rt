@@ -33,8 +33,8 @@ fn add_numbers(
     }
 }
 
-/// Reads the numbers of an object into the lists, in place of what they held. After a fault the lists hold some of
-/// the numbers.
+/// Reads the numbers of an object (`Node`, `DenseNodes`, `Way` or `Relation` of osmformat.proto) into the lists, in
+/// place of what they held. The fault is the first one of the wire format. Nothing is promised of the lists then.
 pub fn read_numbers(object: &RawObject<'_>, lists: &mut NumberLists) -> Result<(), MessageFault>
     ensures { Becomes result (seen_lists lists.new) (listed (numbers_in (shape_of object.now.kind) object.now.at object.now.bytes.now)) }
 {

@@ -102,8 +102,11 @@ fn block_scale(block: &RawBlock<'_>) -> Scale
     }
 }
 
-/// Puts the objects of a block behind the others, each list in the order of the bytes. The block's first byte stands
-/// at `at`. After a fault the lists hold some of the objects.
+/// Puts the objects of a block behind the others, each list in the order of the bytes (osmformat.proto). The block's
+/// first byte stands at `at`.
+///
+/// The fault is `MissingField` for a block without a string table, or else that of the first object which has one.
+/// Nothing is promised of the lists then.
 pub fn add_objects(
     alloc: Global,
     block: &RawBlock<'_>,
