@@ -1,9 +1,14 @@
 //! The command `blobs` over a host in memory: its text, its refusals with their places, and its faults. The command
-//! `build` is in `builds`.
+//! `build` is in `builds`, and the lines of what it refuses in the others.
 
 mod builds;
+mod extract_ends;
+mod fault_orders;
+mod faults;
 mod plain_extract;
 mod refusals;
+mod texts_and_places;
+mod wire_faults;
 
 use crate::mjolnir;
 use host_port::{Bytes, MemHost, NoGate, Text};

@@ -56,9 +56,9 @@ pub enum ExtractFault {
     NoHeader { at: u64 },
     /// The required feature whose field stands at the place `at` isn't read. The text is `?` where it isn't UTF-8.
     Feature { at: u64, text: TagText },
-    /// In the object at the place `at`, a text's index isn't in the string table, or a kept text isn't UTF-8.
+    /// The object at the place `at` names a text that isn't in the string table, or one that is kept and isn't UTF-8.
     BadString { at: u64, index: u64 },
-    /// In the object at the place `at`, lists that go together don't.
+    /// In the object at the place `at`, lists that go together differ in length, or a member has a type that isn't one.
     Uneven { at: u64 },
     /// Two objects of one kind have one id: the least such id of the first such kind.
     DuplicateId { kind: MemberKind, id: i64 },
@@ -68,7 +68,8 @@ pub enum ExtractFault {
     TooMany { what: Counted, count: u64 },
     /// A field that may come once comes again at the place `at`.
     Repeated { at: u64, number: u32 },
-    /// In the object at the place `at`, a sum of differences isn't a signed number of 64 bits.
+    /// In the object at the place `at`, a sum of differences isn't a signed number of 64 bits: it is too large, or too
+    /// small.
     BadNumber { at: u64 },
 }
 
@@ -175,7 +176,7 @@ impl fmt::Display for ExtractFault {
             ),
             ExtractFault::BadString { at, index } => write!(
                 f,
-                "the object at {at} has no text {index}"
+                "the object at {at} names text {index}, which isn't there or isn't UTF-8"
             ),
             ExtractFault::Uneven { at } => write!(f, "the lists of the object at {at} don't fit"),
             ExtractFault::DuplicateId { kind, id } => write!(
@@ -191,7 +192,7 @@ impl fmt::Display for ExtractFault {
             ),
             ExtractFault::BadNumber { at } => write!(
                 f,
-                "the numbers of the object at {at} are too large"
+                "a sum of differences in the object at {at} is no signed number of 64 bits"
             ),
         }
     }

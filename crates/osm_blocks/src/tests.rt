@@ -1,8 +1,10 @@
-use crate::counts::{Counts, first_past};
+use crate::counts::{Counts, count, first_past};
 use crate::fault::{Counted, ExtractFault};
 use crate::read::read_extract;
 use host_port::{Bytes, Host, MemHost, Text};
+use osm_messages::read_block;
 use osm_model::{Extract, MemberKind, TagText, value};
+use osm_objects::{ObjectLists, add_objects};
 use std::alloc::{AllocError, Global};
 use std::ops::Range;
 use std::test::Fail;
@@ -424,24 +426,66 @@ fn push_relations(alloc: Global, bytes: &mut Vec<u8>, ids: Range<u64>) -> Result
     bytes.extend_from_slice(&group)
 }
 
-// What a file of so many relations gives, in two blocks: the number of its relations, or its fault.
-fn relations_read(alloc: Global, count: u64) -> Result<Result<usize, ExtractFault>, AllocError> {
+// What a file of relations gives, in two blocks, of 250,000 and of those with these ids: the number of its relations,
+// or its fault.
+fn relations_read(
+    alloc: Global,
+    ids: Range<u64>,
+) -> Result<Result<usize, ExtractFault>, AllocError> {
     let mut bytes = Vec::from_slice(alloc, &TWO_NODES[..DATA])?;
     push_relations(alloc, &mut bytes, 0..250_000)?;
-    push_relations(alloc, &mut bytes, 250_000..count)?;
+    push_relations(alloc, &mut bytes, ids)?;
     let found = read_bytes(alloc, &bytes, 65_536, None)?;
     Ok(found.map(|extract| extract.relations.len()))
 }
 
 #[test]
 fn most_relations(rt: HostRuntime) -> Result<(), Fail> {
-    assert_eq!(rt; relations_read(rt.alloc(), 500_000)?, Ok(500_000));
+    assert_eq!(rt; relations_read(rt.alloc(), 250_000..500_000)?, Ok(500_000));
     let many = ExtractFault::TooMany {
         what: Counted::Relations,
         count: 500_001,
     };
-    assert_eq!(rt; relations_read(rt.alloc(), 500_001)?, Err(many));
+    assert_eq!(rt; relations_read(rt.alloc(), 250_000..500_001)?, Err(many));
+    // as many, of which two have one id: that is said first
+    let twice = ExtractFault::DuplicateId {
+        kind: MemberKind::Relation,
+        id: 249_999,
+    };
+    assert_eq!(rt; relations_read(rt.alloc(), 249_999..500_000)?, Err(twice));
     Ok(())
+}
+
+// A table of "" and `bus`; nodes 1 to 3 with one tag, ways 1 and 2 with two tags and three refs, and relation 1 with
+// four tags and five members.
+const COUNTED: [u8; 97] =
+    *b"\x0a\x07\x0a\x00\x0a\x03bus\x12\x18\x12\x16\x0a\x03\x02\x02\x02\x42\x03\x00\x00\x00\x4a\x03\x00\x00\x00\x52\x05\x00\x01\x01\x00\x00\x12\x15\x1a\x0f\x08\x01\x12\x02\x01\x01\x1a\x02\x00\x00\x42\x03\x02\x02\x02\x1a\x02\x08\x02\x12\x25\x22\x23\x08\x01\x12\x04\x01\x01\x01\x01\x1a\x04\x00\x00\x00\x00\x42\x05\x00\x00\x00\x00\x00\x4a\x05\x02\x02\x02\x02\x02\x52\x05\x00\x01\x02\x00\x01";
+
+// The counts of that block's nodes, ways, relations, refs, members and tags.
+fn counts_of(alloc: Global, block: &[u8]) -> Option<[u64; 6]> {
+    let Ok(raw) = read_block(alloc, block, 0) else {
+        return None;
+    };
+    let mut lists = ObjectLists::new(alloc);
+    if add_objects(alloc, &raw, 0, &mut lists).is_err() {
+        return None;
+    }
+    let counts = count(&lists);
+    Some([
+        counts.nodes,
+        counts.ways,
+        counts.relations,
+        counts.refs,
+        counts.members,
+        counts.tags,
+    ])
+}
+
+// The kept tags are 1 of nodes, 2 of ways and 4 of relations.
+#[test]
+fn counts(rt: HostRuntime) {
+    let found = counts_of(rt.alloc(), COUNTED.as_slice());
+    assert_eq!(rt; found, Some([3, 2, 1, 3, 5, 7]));
 }
 
 // The calls of the host are numbered from 0, the opening of the input. The last one finds the end.
@@ -484,22 +528,124 @@ fn says(alloc: Global, fault: ExtractFault, text: &str) -> Result<bool, AllocErr
 }
 
 #[test]
-fn texts(rt: HostRuntime) -> Result<(), Fail> {
-    let alloc = rt.alloc();
-    let twice = ExtractFault::DuplicateId {
-        kind: MemberKind::Way,
-        id: -3,
-    };
-    assert!(rt; says(alloc, twice, "two ways have the id -3")?);
-    let many = ExtractFault::TooMany {
-        what: Counted::Refs,
-        count: 7,
-    };
-    assert!(rt; says(alloc, many, "there are 7 refs")?);
-    let text = TagText::from_str(alloc, "A")?;
-    let feature = ExtractFault::Feature { at: 5, text };
-    assert!(rt; says(alloc, feature, "the feature A at 5 isn't read")?);
-    let none = ExtractFault::NoHeader { at: 4 };
-    assert!(rt; says(alloc, none, "no header block comes before 4")?);
+fn texts_of_faults_of_blobs(rt: HostRuntime) -> Result<(), Fail> {
+    for (fault, text) in [
+        (ExtractFault::Read, "the input can't be read"),
+        (
+            ExtractFault::Truncated { at: 4 },
+            "the input ends inside what begins at 4",
+        ),
+        (
+            ExtractFault::HeaderTooLong { at: 4, len: 65_536 },
+            "the header of the triple at 4 has 65536 bytes",
+        ),
+        (
+            ExtractFault::BlobTooLong { at: 4, len: 9 },
+            "the blob of the triple at 4 has 9 bytes",
+        ),
+        (
+            ExtractFault::Compressed { at: 4, field: 3 },
+            "the blob at 4 is compressed, in field 3",
+        ),
+        (
+            ExtractFault::Wire {
+                fault: WireFault::BadWire { at: 4, kind: 3 },
+            },
+            "the field at 4 has wire type 3",
+        ),
+        (
+            ExtractFault::NoPayload { at: 4 },
+            "the blob at 4 has no payload",
+        ),
+        (ExtractFault::TooLarge { bytes: 9 }, "a blob would end at 9"),
+        (ExtractFault::OutOfMemory, "out of memory"),
+        (
+            ExtractFault::BadType { at: 4 },
+            "the type in the header at 4 isn't UTF-8",
+        ),
+        (
+            ExtractFault::NoHeader { at: 4 },
+            "no header block comes before 4",
+        ),
+        (
+            ExtractFault::Feature {
+                at: 4,
+                text: TagText::from_str(rt.alloc(), "A")?,
+            },
+            "the feature A at 4 isn't read",
+        ),
+    ] {
+        assert!(rt; says(rt.alloc(), fault, text)?, "{text}");
+    }
+    Ok(())
+}
+
+#[test]
+fn texts_of_faults_of_objects(rt: HostRuntime) -> Result<(), Fail> {
+    for (fault, text) in [
+        (
+            ExtractFault::MissingField { at: 58, number: 8 },
+            "what begins at 58 has no field 8",
+        ),
+        (
+            ExtractFault::Repeated { at: 58, number: 2 },
+            "the field 2 at 58 comes again",
+        ),
+        (
+            ExtractFault::Uneven { at: 58 },
+            "the lists of the object at 58 don't fit",
+        ),
+        (
+            ExtractFault::BadNumber { at: 58 },
+            "a sum of differences in the object at 58 is no signed number of 64 bits",
+        ),
+        (
+            ExtractFault::BadString { at: 58, index: 9 },
+            "the object at 58 names text 9, which isn't there or isn't UTF-8",
+        ),
+        (
+            ExtractFault::BadCoordinate { id: -7 },
+            "the node -7 is at no place",
+        ),
+        (
+            ExtractFault::DuplicateId {
+                kind: MemberKind::Node,
+                id: 7,
+            },
+            "two nodes have the id 7",
+        ),
+        (
+            ExtractFault::DuplicateId {
+                kind: MemberKind::Way,
+                id: -3,
+            },
+            "two ways have the id -3",
+        ),
+        (
+            ExtractFault::DuplicateId {
+                kind: MemberKind::Relation,
+                id: 7,
+            },
+            "two relations have the id 7",
+        ),
+    ] {
+        assert!(rt; says(rt.alloc(), fault, text)?, "{text}");
+    }
+    Ok(())
+}
+
+#[test]
+fn texts_of_counts(rt: HostRuntime) -> Result<(), Fail> {
+    for (what, text) in [
+        (Counted::Nodes, "there are 7 nodes"),
+        (Counted::Ways, "there are 7 ways"),
+        (Counted::Relations, "there are 7 relations"),
+        (Counted::Refs, "there are 7 refs"),
+        (Counted::Members, "there are 7 members"),
+        (Counted::Tags, "there are 7 tags"),
+    ] {
+        let fault = ExtractFault::TooMany { what, count: 7 };
+        assert!(rt; says(rt.alloc(), fault, text)?, "{text}");
+    }
     Ok(())
 }

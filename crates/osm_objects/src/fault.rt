@@ -14,9 +14,9 @@ pub enum ObjectFault {
     MissingField { at: u64, number: u32 },
     /// Lists that belong together differ in length, or a member has a type that isn't one.
     Uneven { at: u64 },
-    /// A number isn't a signed one of 64 bits.
+    /// A sum of differences isn't a signed number of 64 bits: it is too large, or too small.
     BadNumber { at: u64 },
-    /// The string table has no text with this index, or it isn't UTF-8.
+    /// The string table has no text with this index; or it has one that is kept and isn't UTF-8.
     BadString { at: u64, index: u64 },
     /// The node with this id isn't at a place on the earth.
     BadCoordinate { id: i64 },
@@ -48,10 +48,16 @@ impl fmt::Display for ObjectFault {
             }
             ObjectFault::Uneven { at } => write!(f, "the lists of the object at {at} don't fit"),
             ObjectFault::BadNumber { at } => {
-                write!(f, "a number of the object at {at} is too large")
+                write!(
+                    f,
+                    "a sum of differences in the object at {at} is no signed number of 64 bits"
+                )
             }
             ObjectFault::BadString { at, index } => {
-                write!(f, "the object at {at} has no text {index}")
+                write!(
+                    f,
+                    "the object at {at} names text {index}, which isn't there or isn't UTF-8"
+                )
             }
             ObjectFault::BadCoordinate { id } => write!(f, "the node {id} isn't on the earth"),
             ObjectFault::OutOfMemory => write!(f, "out of memory"),

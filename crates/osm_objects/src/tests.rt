@@ -239,3 +239,39 @@ fn no_string_table(rt: HostRuntime) -> Result<(), Fail> {
     assert_eq!(rt; found, Some(ObjectFault::MissingField { at: 0, number: 1 }));
     Ok(())
 }
+
+// Whether this fault reads so.
+fn reads(alloc: Global, fault: ObjectFault, text: &str) -> Result<bool, AllocError> {
+    let said = fault.to_string(alloc)?;
+    Ok(said.as_str() == text)
+}
+
+#[test]
+fn texts_of_faults(rt: HostRuntime) -> Result<(), Fail> {
+    for (fault, text) in [
+        (
+            ObjectFault::MissingField { at: 58, number: 8 },
+            "what begins at 58 has no field 8",
+        ),
+        (
+            ObjectFault::Uneven { at: 58 },
+            "the lists of the object at 58 don't fit",
+        ),
+        (
+            ObjectFault::BadNumber { at: 58 },
+            "a sum of differences in the object at 58 is no signed number of 64 bits",
+        ),
+        (
+            ObjectFault::BadString { at: 58, index: 9 },
+            "the object at 58 names text 9, which isn't there or isn't UTF-8",
+        ),
+        (
+            ObjectFault::BadCoordinate { id: -7 },
+            "the node -7 isn't on the earth",
+        ),
+        (ObjectFault::OutOfMemory, "out of memory"),
+    ] {
+        assert!(rt; reads(rt.alloc(), fault, text)?, "{text}");
+    }
+    Ok(())
+}

@@ -21,7 +21,7 @@ fn refuses<R: Threads + Sync + AllocGlobal>(
 fn headers(rt: HostRuntime) -> Result<(), Fail> {
     for (bytes, said) in [
         (
-            b"\x00\x01\x00\x00".as_slice(),
+            b"\x00\x01\x00\x00\x0a\x09OSMHeader\x18\x12\x0a\x10\x22\x0eOsmSchema-V0.6".as_slice(),
             "error 5 HeaderTooLong at=0 len=65536\n",
         ),
         (b"\x00\x00\xff\xff\x0a\x09", "error 5 Truncated at=4\n"),
@@ -71,6 +71,15 @@ fn blobs_of_headers(rt: HostRuntime) -> Result<(), Fail> {
         (
             b"\x00\x00\x00\x0d\x0a\x09OSMHeader\x18\x19\x0a\x17\x22\x15HistoricalInformation",
             "error 5 Feature at=19 text=HistoricalInformation\n",
+        ),
+        // the first of two, and behind a known one of 12 bytes
+        (
+            b"\x00\x00\x00\x0d\x0a\x09OSMHeader\x18\x08\x0a\x06\x22\x01B\x22\x01A",
+            "error 5 Feature at=19 text=B\n",
+        ),
+        (
+            b"\x00\x00\x00\x0d\x0a\x09OSMHeader\x18\x11\x0a\x0f\x22\x0aDenseNodes\x22\x01B",
+            "error 5 Feature at=31 text=B\n",
         ),
         // a control character in it, so that the line stays one
         (
