@@ -447,7 +447,12 @@ fn most_relations(rt: HostRuntime) -> Result<(), Fail> {
         count: 500_001,
     };
     assert_eq!(rt; relations_read(rt.alloc(), 250_000..500_001)?, Err(many));
-    // as many, of which two have one id: that is said first
+    Ok(())
+}
+
+// As many, of which two have one id: that is said first.
+#[test]
+fn one_of_too_many_twice(rt: HostRuntime) -> Result<(), Fail> {
     let twice = ExtractFault::DuplicateId {
         kind: MemberKind::Relation,
         id: 249_999,

@@ -96,8 +96,8 @@ fn ids_that_come_twice(rt: HostRuntime) -> Result<(), Fail> {
     Ok(())
 }
 
-// The texts are 0 "", 1 `highway`, 2 `residential`, 3 `name`, 4 `note`, which isn't kept. The first node by id is named, or
-// else the first way, or else the first relation; ids 05 and 03 of nodes are -3 and -2.
+// The texts are 0 "", 1 `highway`, 2 `residential`, 3 `name`, 4 `note`, which isn't kept. The first node by id is
+// named, or else the first way, or else the first relation; ids 05 and 03 of nodes are -3 and -2.
 #[test]
 fn objects_that_are_not_built(rt: HostRuntime) -> Result<(), Fail> {
     for (name, block, said) in [
@@ -227,7 +227,8 @@ fn roads_that_are_built(rt: HostRuntime) -> Result<(), Fail> {
     Ok(())
 }
 
-// Way 1 is residential and too long, between nodes at 0 and 241,138,570 units; way 2 isn't built yet, which comes first.
+// Way 1 is residential and too long, between nodes at 0 and 241,138,570 units; way 2 isn't built yet, which comes
+// first.
 #[test]
 fn what_is_not_built_before_what_is_too_long(rt: HostRuntime) -> Result<(), Fail> {
     let block =

@@ -38,7 +38,7 @@ pub(super) fn two_say<R: Threads + Sync + AllocGlobal>(
 }
 
 /// The same, of the bytes of a whole file.
-pub(super) fn bytes_say<R: Threads + Sync + AllocGlobal>(
+fn bytes_say<R: Threads + Sync + AllocGlobal>(
     rt: &R,
     bytes: &[u8],
     said: &str,

@@ -216,9 +216,9 @@ fn edges_of_the_earth(rt: HostRuntime) -> Result<(), Fail> {
     Ok(())
 }
 
-// Node 7 again. Behind it granularity 1,000 (e8 07), 1 or -100; offsets of 90 and 180 degrees, which are
-// 80 f4 98 a4 cf 02 and 80 e8 b1 c8 9e 05 in units of 1e-9 degree. Their negatives less 1 are ff 8b e7 .. and
-// ff 97 ce ..: one unit of 1e-9 degree past the edge, which is rounded down. 90,000,000 is 80 aa ea 55.
+// Node 7 again. Behind it granularity 1,000 (e8 07), 1 or -100 (9c ff .. 01), and offsets of 90 degrees north and 180
+// east, which are 80 88 ac a3 cf 02 and 80 90 d8 c6 9e 05 in units of 1e-9 degree, or of as many south and west and one
+// unit of 1e-9 degree more, ff f7 .. 01 and ff ef .. 01. Steps are zigzag: 90,000,000 is 80 aa ea 55.
 #[test]
 fn granularity_and_offsets(rt: HostRuntime) -> Result<(), Fail> {
     for (name, block, said) in [
