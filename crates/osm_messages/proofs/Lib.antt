@@ -6,3 +6,10 @@ pub mod FieldLists
 pub mod Begun
 pub mod Members
 pub mod Kept
+pub mod Meant
+pub mod MeantNumbers
+pub mod MeantGroups
+pub mod MeantBlocks
+pub mod FirstFaults
+pub mod FirstInObjects
+pub mod FirstInBlocks

@@ -1,4 +1,5 @@
--- The data block of an OSMData blob (osmformat.proto, PrimitiveBlock).
+-- The data block of an OSMData blob (osmformat.proto, PrimitiveBlock). It speaks of the format; Means.IsBlock says the
+-- same without steps.
 use Rattle.std.specs.Prelude.{ℕ, ℤ, pos, ◌==◌, if◌then◌else◌, is_some, List, [], ◌++◌, Option, Some, None, Result, Ok, Err}
 use Rattle.std.specs.Int.{w64, cast_signed}
 use Rattle.wire_read.specs.Fields.{Content, Varint, Fixed64, Bytes, Fixed32, WireField}

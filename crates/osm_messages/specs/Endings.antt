@@ -1,4 +1,4 @@
--- Where varints end in packed bytes.
+-- Where varints end in packed bytes: as the program goes through them; a reader of the format may skip this.
 use Rattle.std.specs.Prelude.{◌≡◌, ℕ, ◌+◌, ◌*◌, ◌<◌, ◌≤◌, List, length, get_or, min}
 
 -- the least of five bytes from this place on

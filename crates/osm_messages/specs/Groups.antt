@@ -1,4 +1,5 @@
--- The objects of a group (osmformat.proto, PrimitiveGroup). The numbers of each have to be spelled.
+-- The objects of a group (osmformat.proto, PrimitiveGroup). The numbers of each have to be spelled. It speaks of the
+-- format; Means.IsGroup says the same without steps.
 use Rattle.std.specs.Prelude.{ℕ, Bool, true, false, ◌==◌, if◌then◌else◌, List, [], ◌∷◌, ◌++◌, IsOk, Result, Ok, Err}
 use Rattle.std.specs.List.{list_any}
 use Rattle.wire_read.specs.Fields.{WireField}

@@ -1,4 +1,5 @@
--- The header block of an OSMHeader blob (osmformat.proto, HeaderBlock): the features that a reader has to know.
+-- The header block of an OSMHeader blob (osmformat.proto, HeaderBlock): the features that a reader has to know. It
+-- speaks of the format; Means.IsHeader says the same without steps.
 use Rattle.std.specs.Prelude.{ℕ, ◌==◌, if◌then◌else◌, List, [], ◌∷◌, ◌++◌, Result, Ok}
 use Rattle.wire_read.specs.Fields.{WireField}
 use Rattle.osm_messages.specs.declared.fault.MessageFault.{MessageFault}

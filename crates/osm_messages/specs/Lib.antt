@@ -9,3 +9,5 @@ pub mod Seen
 pub mod Lists
 pub mod Passes
 pub mod Endings
+pub mod Means
+pub mod Faults

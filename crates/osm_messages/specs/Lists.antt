@@ -1,4 +1,5 @@
--- The numbers of an object, list by list.
+-- The numbers of an object, list by list. The first half speaks of the format. The second half is how the program
+-- fills the lists; a reader of the format may skip it.
 use Rattle.std.specs.Prelude.{ℕ, Bool, ◌==◌, ◌||◌, if◌then◌else◌, List, [], ◌∷◌, ◌++◌, Result, Ok}
 use Rattle.wire_read.specs.Fields.{Content, Varint, Fixed64, Bytes, Fixed32, WireField, packed_of}
 use Rattle.osm_messages.specs.declared.fault.MessageFault.{MessageFault}
@@ -41,7 +42,7 @@ lists_of numbers = record {
 abbrev pub listed : Result (List (ℕ × ℕ)) MessageFault → Result Lists MessageFault
 listed numbers = numbers >>= λ all. Ok (lists_of all)
 
--- ---- as the program fills them
+-- ---- as the program fills them; a reader of the format may skip this
 
 -- the field has a list
 abbrev pub has_list : ℕ → Bool

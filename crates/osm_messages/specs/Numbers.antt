@@ -1,4 +1,5 @@
--- The numbers of an object (osmformat.proto: Node, DenseNodes, Way, Relation), by the fields that hold them.
+-- The numbers of an object (osmformat.proto: Node, DenseNodes, Way, Relation), by the fields that hold them. It speaks
+-- of the format; Means.IsObject says the same without steps.
 use Rattle.std.specs.Prelude.{ℕ, Bool, ◌==◌, ◌||◌, if◌then◌else◌, List, [], ◌∷◌, ◌++◌, Result, Ok}
 use Rattle.std.specs.List.{list_any}
 use Rattle.wire_read.specs.Fields.{Content, Varint, Fixed64, Bytes, Fixed32, WireField, packed_of}

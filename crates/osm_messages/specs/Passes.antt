@@ -1,4 +1,5 @@
--- What is kept of a message while its fields are looked through.
+-- What is kept of a message while its fields are looked through: as the program goes through them; a reader of the
+-- format may skip this.
 use Rattle.std.specs.Prelude.{ℕ, Bool, true, ◌==◌, if◌then◌else◌, List, [], ◌∷◌, ◌++◌, Result, Ok, Err}
 use Rattle.wire_read.specs.Fields.{Content, Varint, Fixed64, Bytes, Fixed32, WireField, packed_of}
 use Rattle.osm_messages.specs.declared.fault.MessageFault.{MessageFault}

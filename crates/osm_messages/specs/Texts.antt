@@ -1,4 +1,5 @@
 -- The string table of a block (osmformat.proto, StringTable): the texts that its objects name by their place in it.
+-- It speaks of the format; Means.IsTable says the same without steps.
 use Rattle.std.specs.Prelude.{ℕ, ◌==◌, if◌then◌else◌, List, [], ◌∷◌, ◌++◌, Result, Ok}
 use Rattle.wire_read.specs.Fields.{WireField}
 use Rattle.osm_messages.specs.declared.fault.MessageFault.{MessageFault}

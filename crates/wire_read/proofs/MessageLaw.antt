@@ -24,7 +24,7 @@ tag_not_empty : (bytes : List ℕ) → Tagged bytes → 0 < length bytes
 tag_not_empty bytes tagged = omega (arith, IsGroups-length tagged.tag tagged.spells.groups, length-append tagged.tag tagged.body, ap length tagged.parts)
 
 -- what has a fault isn't empty
-fault_not_empty : (bytes : List ℕ) (base : ℕ) (fault : WireFault) → HasFieldFault bytes base fault → 0 < length bytes
+pub fault_not_empty : (bytes : List ℕ) (base : ℕ) (fault : WireFault) → HasFieldFault bytes base fault → 0 < length bytes
 fault_not_empty bytes base (faults.Short at) has = has.1
 fault_not_empty bytes base (faults.LongVarint at) (place, inl endless) = omega (arith, endless.0)
 fault_not_empty bytes base (faults.LongVarint at) (place, inr h) = tag_not_empty bytes h.0

@@ -1,0 +1,153 @@
+-- Headers, string tables and objects are what the format says they are.
+use Rattle.std.proofs.Common.{◌≡◌, ℕ, eqb, cond, ◌||◌, Bool, true, false, List, [], ◌∷◌, ◌++◌, map, Result, Ok, ◌↔◌, refl, sym, ap, ◌∙◌, subst, inl, inr, append_assoc}
+use Rattle.std.proofs.lemmas.List.{append-nil}
+use Rattle.std.specs.List.{cons_option}
+use Rattle.wire_read.specs.Varint.{AreBytes}
+use Rattle.wire_read.specs.Numbers.{SpellsNumbers}
+use Rattle.wire_read.specs.Fields.{Content, Varint, Fixed64, Bytes, Fixed32, WireField}
+use Rattle.wire_read.proofs.Packed.{is_read_one_way}
+use Rattle.wire_read.proofs.MessageLaw.{packed_is_computed}
+use Rattle.osm_messages.specs.declared.fault.MessageFault.{MessageFault}
+use Rattle.osm_messages.specs.Walks.{steps, walk, with_bytes}
+use Rattle.osm_messages.specs.Texts.{text_step, texts_in}
+use Rattle.osm_messages.specs.Headers.{feature_step, features_in}
+use Rattle.osm_messages.specs.Numbers.{Shape, is_among, with_number, with_packed, with_held, number_step, numbers_in}
+use Rattle.osm_messages.specs.Means.{Part, held_part, parts, Together, IsHeader, IsTable, HoldsPacked, HoldsNumbers, GivesNumbers, IsObject}
+use Rattle.osm_messages.proofs.Walks.{bind_ok}
+use Rattle.osm_messages.proofs.Meant.{ok_is, not_broken, InBytes, HoldsBytes, IsMeant, message_means, Behind, Appends, appends_meant, via, moved, one_more}
+
+-- ---- what each field of a number holds, put behind
+
+abbrev Taken : {B : Type 0} → (Part → B) → ℕ → List B → List WireField → List B → Type 0
+Taken view number s fields t = t ≡ s ++ map view (parts number fields)
+
+-- a step that puts it there, if it is to be taken
+abbrev pub take_step : {B : Type 0} → (Part → B) → Bool → List B → ℕ → ℕ → Content → Result (List B) MessageFault
+take_step view b s at body_at content =
+    with_bytes s content (λ bytes. Ok (cond b (s ++ view (record { at = at; body_at = body_at; bytes = bytes }) ∷ []) s))
+
+taken : {B : Type 0} (view : Part → B) (b : Bool) (s t : List B) (at body_at : ℕ) (content : Content) (others : List Part)
+    → ((u : List B) × (take_step view b s at body_at content ≡ Ok u) × (t ≡ u ++ map view others)) ↔ (t ≡ s ++ map view (cons_option (held_part b at body_at content) others))
+taken view b s t at body_at (Varint n) others = moved s (λ u. t ≡ u ++ map view others)
+taken view b s t at body_at (Fixed64 n) others = moved s (λ u. t ≡ u ++ map view others)
+taken view true s t at body_at (Bytes bytes) others =
+    let part : Part = record { at = at; body_at = body_at; bytes = bytes } in
+    via (moved (s ++ view part ∷ []) (λ u. t ≡ u ++ map view others)) (one_more s (map view others) t (view part))
+taken view false s t at body_at (Bytes bytes) others = moved s (λ u. t ≡ u ++ map view others)
+taken view b s t at body_at (Fixed32 n) others = moved s (λ u. t ≡ u ++ map view others)
+
+begins : {B : Type 0} (s t : List B) → (s ≡ t) ↔ (t ≡ s ++ [])
+begins s t = (λ e. sym e ∙ sym (append-nil s), λ e. sym (append-nil s) ∙ sym e)
+
+-- ---- headers
+
+abbrev view_feature : Part → ℕ × List ℕ
+view_feature part = (part.at, part.bytes)
+
+features_meant : IsMeant feature_step HoldsBytes (Taken view_feature 4)
+features_meant = record {
+  here = begins;
+  there = λ s t field fields holds. taken view_feature (eqb field.number 4) s t field.at field.body_at field.content (parts 4 fields);
+}
+
+pub header_means : (at : ℕ) (bytes : List ℕ) → AreBytes bytes → (features : List (ℕ × List ℕ)) → (features_in at bytes ≡ Ok features) ↔ IsHeader at bytes features
+unfolding features_in
+header_means at bytes are features =
+    let both = message_means feature_step (Taken view_feature 4) features_meant [] features at bytes are in (
+      λ e. let by = both.0 e in record { fields = by.fields; spells = by.spells; features_are = by.leads },
+      λ is. both.1 (record { fields = is.fields; spells = is.spells; leads = is.features_are }),
+    )
+
+-- ---- string tables
+
+abbrev view_text : Part → List ℕ
+view_text part = part.bytes
+
+texts_meant : IsMeant text_step HoldsBytes (Taken view_text 1)
+texts_meant = record {
+  here = begins;
+  there = λ s t field fields holds. taken view_text (eqb field.number 1) s t field.at field.body_at field.content (parts 1 fields);
+}
+
+pub table_means : (at : ℕ) (bytes : List ℕ) → AreBytes bytes → (texts : List (List ℕ)) → (texts_in at bytes ≡ Ok texts) ↔ IsTable at bytes texts
+unfolding texts_in
+table_means at bytes are texts =
+    let both = message_means text_step (Taken view_text 1) texts_meant [] texts at bytes are in (
+      λ e. let by = both.0 e in record { fields = by.fields; spells = by.spells; texts_are = by.leads },
+      λ is. both.1 (record { fields = is.fields; spells = is.spells; leads = is.texts_are }),
+    )
+
+-- ---- packed numbers of a field
+
+abbrev tagged : ℕ → List ℕ → List (ℕ × ℕ)
+tagged field held = map (λ n. (field, n)) held
+
+pub with_numbers : (field : ℕ) (s : List (ℕ × ℕ)) (held : List ℕ) → steps (with_number field) s held ≡ Ok (s ++ tagged field held)
+with_numbers field s [] = ap Ok (sym (append-nil s))
+with_numbers field s (n ∷ held) = with_numbers field (s ++ (field, n) ∷ []) held ∙ ap Ok (append_assoc s ((field, n) ∷ []) (tagged field held))
+
+packed_means : (field at : ℕ) (bytes : List ℕ) → AreBytes bytes → (s u : List (ℕ × ℕ))
+    → (with_packed field s at bytes ≡ Ok u) ↔ ((held : List ℕ) × SpellsNumbers bytes held × (u ≡ s ++ tagged field held))
+packed_means field at bytes are s u = (
+  λ e. elim (is_read_one_way bytes at are).some [
+    | inl found ↦ (found.0, found.1, sym (ok_is (s ++ tagged field found.0) u (sym (whole found.0 found.1) ∙ e)))
+    | inr found ↦ absurd (not_broken (steps (with_number field) s found.0) found.1 u (sym (ap (walk (with_number field) s) ((packed_is_computed bytes at).broken found.0 found.1 found.2)) ∙ e))
+  ],
+  λ r. whole r.0 r.1 ∙ ap Ok (sym r.2),
+)
+  where
+    whole : (held : List ℕ) → SpellsNumbers bytes held → with_packed field s at bytes ≡ Ok (s ++ tagged field held)
+    whole held spells =
+        ap (walk (with_number field) s) ((packed_is_computed bytes at).spelled held spells)
+        ∙ bind_ok (steps (with_number field) s held)
+        ∙ with_numbers field s held
+
+-- ---- the numbers of an object
+
+-- what is put behind is what these numbers are, with the number of their field
+abbrev HeldBehind : ℕ → (List ℕ → Type 0) → List (ℕ × ℕ) → List (ℕ × ℕ) → Type 0
+HeldBehind field Holds s u = (given : List (ℕ × ℕ)) × ((held : List ℕ) × Holds held × (given ≡ tagged field held)) × (u ≡ s ++ given)
+
+holds_these : (field : ℕ) (these : List ℕ) (s u : List (ℕ × ℕ)) → ◌≡◌ {A = Result (List (ℕ × ℕ)) MessageFault} (Ok (s ++ tagged field these)) (Ok u) ↔ HeldBehind field (λ held. held ≡ these) s u
+holds_these field these s u = (
+  λ e. (tagged field these, (these, refl, refl), sym (ok_is (s ++ tagged field these) u e)),
+  λ r. ap Ok (sym (r.2 ∙ ap (λ g. s ++ g) (r.1.2 ∙ ap (tagged field) r.1.1))),
+)
+
+holds_none : (field : ℕ) (s u : List (ℕ × ℕ)) → ◌≡◌ {A = Result (List (ℕ × ℕ)) MessageFault} (Ok s) (Ok u) ↔ HeldBehind field (λ held. held ≡ []) s u
+holds_none field s u = (
+  λ e. ([], ([], refl, refl), sym (ok_is s u e) ∙ sym (append-nil s)),
+  λ r. ap Ok (sym (append-nil s) ∙ sym (r.2 ∙ ap (λ g. s ++ g) (r.1.2 ∙ ap (tagged field) r.1.1))),
+)
+
+holds_varint : (read : Bool) (field n : ℕ) (s u : List (ℕ × ℕ)) → (cond read (with_number field s n) (Ok s) ≡ Ok u) ↔ HeldBehind field (λ held. held ≡ cond read (n ∷ []) []) s u
+holds_varint true field n s u = holds_these field (n ∷ []) s u
+holds_varint false field n s u = holds_none field s u
+
+holds_packed : (listed : Bool) (field at : ℕ) (bytes : List ℕ) → AreBytes bytes → (s u : List (ℕ × ℕ)) → (cond listed (with_packed field s at bytes) (Ok s) ≡ Ok u) ↔ HeldBehind field (HoldsPacked listed bytes) s u
+holds_packed true field at bytes are s u =
+    let both = packed_means field at bytes are s u in (
+      λ e. let r = both.0 e in (tagged field r.0, (r.0, r.1, refl), r.2),
+      λ r. both.1 (r.1.0, r.1.1, r.2 ∙ ap (λ g. s ++ g) r.1.2),
+    )
+holds_packed false field at bytes are s u = holds_none field s u
+
+held_means : (shape : Shape) (field at : ℕ) (content : Content) → InBytes content → (s u : List (ℕ × ℕ)) → (with_held shape field at content s ≡ Ok u) ↔ HeldBehind field (HoldsNumbers shape field content) s u
+held_means shape field at (Varint n) holds s u = holds_varint (is_among field shape.singles || is_among field shape.lists) field n s u
+held_means shape field at (Fixed64 n) holds s u = holds_none field s u
+held_means shape field at (Bytes bytes) holds s u = holds_packed (is_among field shape.lists) field at bytes holds s u
+held_means shape field at (Fixed32 n) holds s u = holds_none field s u
+
+numbers_append : (shape : Shape) → Appends (number_step shape) HoldsBytes (GivesNumbers shape)
+numbers_append shape s u field holds = held_means shape field.number field.body_at field.content holds s u
+
+pub object_means : (shape : Shape) (at : ℕ) (bytes : List ℕ) → AreBytes bytes → (numbers : List (ℕ × ℕ)) → (numbers_in shape at bytes ≡ Ok numbers) ↔ IsObject shape at bytes numbers
+unfolding numbers_in
+object_means shape at bytes are numbers =
+    let meant = appends_meant (number_step shape) HoldsBytes (GivesNumbers shape) (numbers_append shape) in
+    let both = message_means (number_step shape) (Behind (GivesNumbers shape)) meant [] numbers at bytes are in (
+      λ e.
+          let by = both.0 e in
+          record { fields = by.fields; spells = by.spells; numbers_are = subst (λ (w : List (ℕ × ℕ)). Together (GivesNumbers shape) by.fields w) (sym by.leads.2) by.leads.1 },
+      λ is. both.1 (record { fields = is.fields; spells = is.spells; leads = (numbers, is.numbers_are, refl) }),
+    )

@@ -1,0 +1,155 @@
+-- What bytes mean, in the words of the format (osmformat.proto): one relation for each message. Read this first, and
+-- then Faults, which says the same of bytes that are no such message: neither names a step or an order of work. Walks,
+-- Texts, Numbers, Groups, Blocks and Headers compute both, field by field.
+use Rattle.std.specs.Prelude.{◌≡◌, ℕ, ℤ, pos, ◌≤◌, Bool, true, false, ◌==◌, ◌||◌, if◌then◌else◌, List, [], ◌∷◌, ◌++◌, map, length, Option, Some, None, All}
+use Rattle.std.specs.Int.{w64, cast_signed}
+use Rattle.std.specs.List.{filter, filter_map}
+use Rattle.wire_read.specs.Numbers.{SpellsNumbers}
+use Rattle.wire_read.specs.Fields.{Content, Varint, Fixed64, Bytes, Fixed32, WireField, SpellsFields}
+use Rattle.osm_messages.specs.declared.kind.ObjectKind.{ObjectKind}
+use Rattle.osm_messages.specs.declared.kind.ObjectKind.TheVariants as kinds
+use Rattle.osm_messages.specs.Numbers.{Shape, shape_of, is_among}
+use Rattle.osm_messages.specs.Groups.{Object, is_dense}
+use Rattle.osm_messages.specs.Blocks.{Block}
+
+-- ---- what fields hold
+
+-- the bytes that a field holds, with the places of the field and of the first of them
+pub record Part : Type 0 where
+  pub at : ℕ
+  pub body_at : ℕ
+  pub bytes : List ℕ
+
+-- the bytes of a field, if it is to be taken
+abbrev pub held_part : Bool → ℕ → ℕ → Content → Option Part
+held_part taken at body_at (Varint n) = None
+held_part taken at body_at (Fixed64 n) = None
+held_part taken at body_at (Bytes bytes) = if taken then Some (record { at = at; body_at = body_at; bytes = bytes }) else None
+held_part taken at body_at (Fixed32 n) = None
+
+-- the varint of a field, if it is to be taken
+abbrev pub held_varint : Bool → Content → Option ℕ
+held_varint taken (Varint n) = if taken then Some n else None
+held_varint taken (Fixed64 n) = None
+held_varint taken (Bytes bytes) = None
+held_varint taken (Fixed32 n) = None
+
+-- the fields of this number that hold bytes, in order
+abbrev pub parts : ℕ → List WireField → List Part
+parts number fields = filter_map (λ (field : WireField). held_part (field.number == number) field.at field.body_at field.content) fields
+
+-- the varints of the fields of this number, in order
+abbrev pub varints : ℕ → List WireField → List ℕ
+varints number fields = filter_map (λ (field : WireField). held_varint (field.number == number) field.content) fields
+
+-- the whole is what each of these gives, one after the other
+abbrev pub Together : {A B : Type 0} → (A → List B → Type 0) → List A → List B → Type 0
+Together gives [] whole = whole ≡ []
+Together {B = B} gives (x ∷ xs) whole = (given others : List B) × gives x given × (whole ≡ given ++ others) × Together gives xs others
+
+-- ---- a header
+
+-- its required features are its fields 4
+pub record IsHeader (at : ℕ) (bytes : List ℕ) (features : List (ℕ × List ℕ)) : Type 0 where
+  pub fields : List WireField
+  pub spells : SpellsFields bytes at fields
+  pub features_are : features ≡ map (λ (part : Part). (part.at, part.bytes)) (parts 4 fields)
+
+-- ---- a string table
+
+-- its texts are its fields 1
+pub record IsTable (at : ℕ) (bytes : List ℕ) (texts : List (List ℕ)) : Type 0 where
+  pub fields : List WireField
+  pub spells : SpellsFields bytes at fields
+  pub texts_are : texts ≡ map (λ (part : Part). part.bytes) (parts 1 fields)
+
+-- ---- the numbers of an object
+
+-- bytes of a list are packed numbers; other bytes are no numbers
+abbrev pub HoldsPacked : Bool → List ℕ → List ℕ → Type 0
+HoldsPacked true bytes held = SpellsNumbers bytes held
+HoldsPacked false bytes held = held ≡ []
+
+-- a varint is one number, alone or of a list
+abbrev pub HoldsNumbers : Shape → ℕ → Content → List ℕ → Type 0
+HoldsNumbers shape number (Varint n) held = held ≡ (if is_among number shape.singles || is_among number shape.lists then n ∷ [] else [])
+HoldsNumbers shape number (Fixed64 n) held = held ≡ []
+HoldsNumbers shape number (Bytes bytes) held = HoldsPacked (is_among number shape.lists) bytes held
+HoldsNumbers shape number (Fixed32 n) held = held ≡ []
+
+-- the numbers that a field holds, each with the number of the field
+abbrev pub GivesNumbers : Shape → WireField → List (ℕ × ℕ) → Type 0
+GivesNumbers shape field given = (held : List ℕ) × HoldsNumbers shape field.number field.content held × (given ≡ map (λ n. (field.number, n)) held)
+
+-- an object's numbers are those of its fields
+pub record IsObject (shape : Shape) (at : ℕ) (bytes : List ℕ) (numbers : List (ℕ × ℕ)) : Type 0 where
+  pub fields : List WireField
+  pub spells : SpellsFields bytes at fields
+  pub numbers_are : Together (GivesNumbers shape) fields numbers
+
+-- ---- a group
+
+-- nodes 1, dense messages 2, ways 3, relations 4
+abbrev pub kind_of : ℕ → Option ObjectKind
+kind_of number =
+    if number == 1 then Some kinds.Node
+    else (if number == 2 then Some kinds.Dense
+    else (if number == 3 then Some kinds.Way
+    else (if number == 4 then Some kinds.Relation
+    else None)))
+
+abbrev pub object_by : ℕ → List ℕ → Option ObjectKind → Option Object
+object_by at bytes None = None
+object_by at bytes (Some kind) = Some (record { kind = kind; at = at; bytes = bytes })
+
+abbrev pub held_object : ℕ → ℕ → Content → Option Object
+held_object number at (Varint n) = None
+held_object number at (Fixed64 n) = None
+held_object number at (Bytes bytes) = object_by at bytes (kind_of number)
+held_object number at (Fixed32 n) = None
+
+-- the objects of these fields, in order
+abbrev pub objects_in : List WireField → List Object
+objects_in fields = filter_map (λ (field : WireField). held_object field.number field.body_at field.content) fields
+
+abbrev pub dense_among : List Object → List Object
+dense_among objects = filter (λ (object : Object). is_dense object.kind) objects
+
+-- an object has numbers
+abbrev pub SpellsObject : Object → Type 0
+SpellsObject object = (numbers : List (ℕ × ℕ)) × IsObject (shape_of object.kind) object.at object.bytes numbers
+
+-- a group's objects are its fields 1 to 4, at most one of them is dense, and each has numbers
+pub record IsGroup (at : ℕ) (bytes : List ℕ) (objects : List Object) : Type 0 where
+  pub fields : List WireField
+  pub spells : SpellsFields bytes at fields
+  pub objects_are : objects ≡ objects_in fields
+  pub one_dense : length (dense_among objects) ≤ 1
+  pub each_spelled : All SpellsObject objects
+
+-- ---- a block
+
+-- no table, or one table with these texts
+abbrev pub HasTable : List Part → Option (List (List ℕ)) → Type 0
+HasTable [] texts = texts ≡ None
+HasTable (part ∷ []) texts = (found : List (List ℕ)) × IsTable part.body_at part.bytes found × (texts ≡ Some found)
+HasTable (part ∷ other ∷ others) texts = ⊥
+
+-- the bytes of a field are a group of these objects
+abbrev pub GivesGroup : Part → List Object → Type 0
+GivesGroup part objects = IsGroup part.body_at part.bytes objects
+
+-- the last of the numbers, where there is one; each is a signed number of 64 bits
+abbrev pub last_signed : ℤ → List ℕ → ℤ
+last_signed otherwise [] = otherwise
+last_signed otherwise (n ∷ numbers) = last_signed (cast_signed w64 n) numbers
+
+-- string table 1, groups 2, granularity 17, offsets 19 and 20
+pub record IsBlock (at : ℕ) (bytes : List ℕ) (block : Block) : Type 0 where
+  pub fields : List WireField
+  pub spells : SpellsFields bytes at fields
+  pub table : HasTable (parts 1 fields) block.texts
+  pub groups : Together GivesGroup (parts 2 fields) block.objects
+  pub granularity : block.granularity ≡ last_signed (pos 100) (varints 17 fields)
+  pub lat_offset : block.lat_offset ≡ last_signed (pos 0) (varints 19 fields)
+  pub lon_offset : block.lon_offset ≡ last_signed (pos 0) (varints 20 fields)

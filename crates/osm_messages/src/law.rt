@@ -1,0 +1,21 @@
+//! What the definitions of the messages mean, in the words of the format.
+
+ghost use Rattle.std.specs.Prelude.{◌≡◌, ◌↔◌, ℕ, List, Ok, Err};
+ghost use Rattle.wire_read.specs.Varint.{AreBytes};
+ghost use Rattle.osm_messages.specs.declared.fault.MessageFault.{MessageFault};
+ghost use Rattle.osm_messages.specs.Numbers.{Shape, numbers_in};
+ghost use Rattle.osm_messages.specs.Blocks.{Block, block_in};
+ghost use Rattle.osm_messages.specs.Headers.{features_in};
+ghost use Rattle.osm_messages.specs.Means.{IsBlock, IsHeader, IsObject};
+ghost use Rattle.osm_messages.specs.Faults.{InNone, InNumbers, InBlock, IsFirst};
+
+/// Bytes give a block, a header's required features and an object's numbers exactly where they are such a message
+/// by the format. Else they give the first fault that stands in them.
+pub fn block_law()
+    ensures block { (at : ℕ) (bytes : List ℕ) → AreBytes bytes → (block : Block) → (block_in at bytes ≡ Ok block) ↔ IsBlock at bytes block }
+    ensures header { (at : ℕ) (bytes : List ℕ) → AreBytes bytes → (features : List (ℕ × List ℕ)) → (features_in at bytes ≡ Ok features) ↔ IsHeader at bytes features }
+    ensures object { (shape : Shape) (at : ℕ) (bytes : List ℕ) → AreBytes bytes → (numbers : List (ℕ × ℕ)) → (numbers_in shape at bytes ≡ Ok numbers) ↔ IsObject shape at bytes numbers }
+    ensures block_fault { (at : ℕ) (bytes : List ℕ) → AreBytes bytes → (fault : MessageFault) → (block_in at bytes ≡ Err fault) ↔ IsFirst InBlock at bytes fault }
+    ensures header_fault { (at : ℕ) (bytes : List ℕ) → AreBytes bytes → (fault : MessageFault) → (features_in at bytes ≡ Err fault) ↔ IsFirst InNone at bytes fault }
+    ensures object_fault { (shape : Shape) (at : ℕ) (bytes : List ℕ) → AreBytes bytes → (fault : MessageFault) → (numbers_in shape at bytes ≡ Err fault) ↔ IsFirst (InNumbers shape) at bytes fault }
+{}
