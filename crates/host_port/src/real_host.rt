@@ -5,7 +5,7 @@ ghost use Rattle.host_port.specs.RealHost.{nothing};
 
 use crate::counts::one_more;
 use crate::host::{Host, HostFault};
-use std::io::Read;
+use std::io::{Read, Write};
 use std::path::Path;
 use std::rt::Files;
 use std::{fs, io};
@@ -14,7 +14,7 @@ use std::{fs, io};
 ///
 /// Each error of the system is a fault and counts as one, also where the system finds no memory.
 #[derive(Drop)]
-pub struct RealHost<'a, R: Files + Print> {
+pub struct RealHost<'a, R: Files + Print + Alloc> {
     rt: &'a R,
     input: Option<R::File>,
     read_faults: u64,
@@ -22,7 +22,7 @@ pub struct RealHost<'a, R: Files + Print> {
     say_faults: u64,
 }
 
-impl<'a, R: Files + Print> RealHost<'a, R> {
+impl<'a, R: Files + Print + Alloc> RealHost<'a, R> {
     /// A host with no input open and no fault counted.
     pub fn new(rt: &'a R) -> RealHost<'a, R>
         ensures reads { ⟦<RealHost<'a, R> as Host>⟧.read_faults result ≡ 0 }
@@ -39,7 +39,7 @@ impl<'a, R: Files + Print> RealHost<'a, R> {
     }
 }
 
-impl<'a, R: Files + Print> Host for RealHost<'a, R> {
+impl<'a, R: Files + Print + Alloc> Host for RealHost<'a, R> {
     ghost told = { λ _. nothing };
 
     ghost read_faults = { λ host. host.read_faults };
@@ -73,7 +73,8 @@ impl<'a, R: Files + Print> Host for RealHost<'a, R> {
         }
     }
 
-    /// Makes the folders that are missing on the way to the file.
+    /// Makes the folders that are missing on the way to the file. A file that was there stays as it was until the
+    /// new one is whole.
     fn put(&mut self, path: &str, bytes: &[u8]) -> Result<(), HostFault> {
         match write_file(self.rt, path, bytes) {
             Ok(()) => {
@@ -114,9 +115,28 @@ fn read_some<F: Read>(input: &mut Option<F>, buf: &mut [u8]) -> Option<usize>
 }
 
 /// Makes the file hold these bytes, and before that the folders that are missing.
-fn write_file(rt: &impl Files, path: &str, bytes: &[u8]) -> io::Result<()> {
+fn write_file<R: Files + Alloc>(rt: &R, path: &str, bytes: &[u8]) -> io::Result<()> {
     if let Some(folder) = Path::new(path).parent() {
         fs::create_dir_all(rt, folder)?;
     }
-    fs::write(rt, path, bytes)
+    let mut part = String::from_str(rt.alloc(), path)?;
+    part.push_str(".part")?;
+    write_aside(rt, part.as_str(), path, bytes)
+}
+
+/// Writes the bytes to a file of its own, the part, and gives it the path once it is whole. So an error leaves what
+/// had the path before, and nothing of the part.
+fn write_aside(rt: &impl Files, part: &str, path: &str, bytes: &[u8]) -> io::Result<()> {
+    let file = fs::create(rt, part)?;
+    let written = write_whole(file, bytes).and_then(|()| fs::rename(rt, part, path));
+    if written.is_err() {
+        // What went wrong first is what is answered.
+        let _ = fs::remove_file(rt, part);
+    }
+    written
+}
+
+/// Writes the bytes to the file and closes it.
+fn write_whole(mut file: impl Write + Drop, bytes: &[u8]) -> io::Result<()> {
+    file.write_all(bytes)
 }

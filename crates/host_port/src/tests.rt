@@ -3,6 +3,7 @@
 use crate::{Bytes, Gate, Host, HostFault, MemHost, Moment, NoGate, RealHost, Text};
 use std::alloc::{AllocError, Global};
 use std::fs;
+use std::rt::Files;
 use std::test::Fail;
 
 fn file(alloc: Global, path: &str, bytes: &[u8]) -> Result<(Text, Bytes), AllocError> {
@@ -200,6 +201,8 @@ const FOLDER: &str = "host_port_test";
 
 const REAL_FILE: &str = "host_port_test/new/file";
 
+const PART: &str = "host_port_test/new/file.part";
+
 /// Whether each fails: an opening of no file, a put where a folder stands, a read after a put.
 fn real_faults<H: Host>(host: &mut H) -> [bool; 3] {
     [
@@ -209,10 +212,26 @@ fn real_faults<H: Host>(host: &mut H) -> [bool; 3] {
     ]
 }
 
+/// Whether a put fails where a folder has the path of the part, and one where a folder has the path itself; and whether
+/// something of a part is left.
+fn failed_puts<H: Host>(rt: &impl Files, host: &mut H) -> Result<[bool; 4], Fail> {
+    fs::create_dir(rt, PART)?;
+    let no_part = host.put(REAL_FILE, b"other bytes").is_err();
+    fs::remove_dir(rt, PART)?;
+    let no_path = host.put("host_port_test/new", b"other bytes").is_err();
+    let parts = [
+        fs::exists(rt, PART)?,
+        fs::exists(rt, "host_port_test/new.part")?,
+    ];
+    Ok([no_part, no_path, parts[0], parts[1]])
+}
+
 #[test]
 fn works_on_real_files(rt: HostRuntime) -> Result<(), Fail> {
     let mut host = RealHost::new(&rt);
+    host.put(REAL_FILE, b"what was there before")?;
     host.put(REAL_FILE, b"hello, world")?;
+    assert!(rt; failed_puts(&rt, &mut host)? == [true, true, false, false]);
     let (bytes, reads) = read_all(rt.alloc(), &mut host, REAL_FILE)?;
     assert!(rt; bytes.as_slice() == b"hello, world".as_slice());
     assert!(rt; reads == 3);
