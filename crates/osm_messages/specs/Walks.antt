@@ -1,6 +1,6 @@
 -- Messages inside messages, computed: one field after the other, each a step, up to the first fault. It speaks of the
--- format, as Texts, Numbers, Groups, Blocks and Headers do, which stand on it; Means and Faults
--- say the same without steps.
+-- format, as Texts, Numbers, Groups, Blocks and Headers do, which stand on it; Means and Faults say the same without
+-- steps.
 use Rattle.std.specs.Prelude.{ℕ, List, [], ◌∷◌, Option, Some, None, Result, Ok, Err}
 use Rattle.wire_read.specs.declared.fault.WireFault.{WireFault}
 use Rattle.wire_read.specs.Fields.{Content, Varint, Fixed64, Bytes, Fixed32, WireField, Listed, message_of}

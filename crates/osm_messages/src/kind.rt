@@ -2,7 +2,7 @@
 ghost use Rattle.std.specs.Prelude.{◌≡◌};
 ghost use Rattle.osm_messages.specs.Numbers.{shape_of, is_among};
 
-/// What a message of a group is: its field 1, 2, 3 or 4.
+/// What a message of a group is (`PrimitiveGroup` of osmformat.proto): its field 1, 2, 3 or 4.
 #[derive(Clone, Copy, Debug, PartialEq, Eq)]
 pub enum ObjectKind {
     Node,

@@ -2,7 +2,8 @@
 
 use host_port::{Bytes, Text};
 
-/// A blob, with its place. Places and sizes are in bytes, from the input's start.
+/// A blob (`BlobHeader` and `Blob` of fileformat.proto), with its place. Places are in bytes from the input's start,
+/// sizes in bytes.
 #[derive(Debug, Drop)]
 pub struct Blob {
     /// The place of the triple, where its length stands.

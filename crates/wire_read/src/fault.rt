@@ -2,14 +2,15 @@
 use std::error::Error;
 use std::fmt;
 
-/// The first fault of some bytes. `at` is the place of the first byte of the varint or field that has it.
+/// The first fault of some bytes. `at` is the place of the first byte of the varint or field that has it, counted as
+/// the caller counts the places of the bytes.
 #[derive(Clone, Copy, Debug, PartialEq, Eq)]
 pub enum WireFault {
     /// The bytes end inside it.
     Short { at: u64 },
-    /// Ten bytes of a varint all have their top bit set.
+    /// Ten bytes of a varint all have their top bit set (section "Base 128 Varints": it has at most ten bytes).
     LongVarint { at: u64 },
-    /// The wire type is none of 0, 1, 2 and 5.
+    /// The wire type `kind` is none of 0, 1, 2 and 5 (section "Message Structure"; groups, 3 and 4, aren't read).
     BadWire { at: u64, kind: u8 },
     /// The field number is 0 or above 536,870,911.
     BadNumber { at: u64 },

@@ -11,12 +11,13 @@ use std::marker::Model;
 /// The greatest number that a field may have.
 const GREATEST_NUMBER: u64 = 536_870_911;
 
-/// What a field holds, by its wire type: 0, 1, 2, 5.
+/// What a field holds, by its wire type: 0, 1, 2, 5 (section "Message Structure"). `Fixed64` and `Fixed32` are spelled
+/// with the lowest byte first (section "Non-varint Numbers").
 #[derive(Clone, Copy, Debug, PartialEq, Eq)]
 pub enum Body<'a> {
     Varint(u64),
     Fixed64(u64),
-    /// A slice of the message: a text, a message or packed numbers.
+    /// A slice of the message: a text, a message or packed numbers (section "Length-Delimited Records").
     Bytes(&'a [u8]),
     Fixed32(u32),
 }
@@ -135,7 +136,11 @@ fn body_offset(tag: usize, whole: usize, body: &Body<'_>) -> usize
 }
 
 #[tactic(auto, unfolding(crate::specs::Fields::field_of))]
-/// Reads the field that begins the bytes, and gives the bytes after it. `at` is the place of the first byte.
+/// Reads the field that begins the bytes, its tag and its body (section "Message Structure"), and gives the bytes after
+/// it. `at` is the place of the first byte.
+///
+/// The fault is the first of these, each at the place of the field: the tag is no varint, the wire type is bad, the
+/// number is bad, the body is no varint or is cut off.
 pub fn read_field(bytes: &[u8], at: u64) -> Result<(Field<'_>, &[u8]), WireFault>
     requires { at + length bytes.now < 2 ^ 64 }
     ensures field { IfOk result (λ found. field_of at bytes.now ≡ Ok (seen found.0, found.1.now)) }

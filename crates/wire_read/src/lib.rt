@@ -1,4 +1,6 @@
-//! Reading the protocol buffer wire format from a slice. Nothing is copied, and no call takes memory.
+//! Reading the Protocol Buffers wire format from a slice. Nothing is copied, and no call takes memory.
+//!
+//! Where a rule comes from is said by the section of the format's guide, "Encoding", at protobuf.dev.
 #![tactic(auto)]
 
 mod fault;

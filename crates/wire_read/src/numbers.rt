@@ -7,7 +7,7 @@ use crate::fault::WireFault;
 use crate::varint::read_varint;
 use std::marker::Model;
 
-/// A reader of packed numbers. It borrows its bytes.
+/// A reader of packed numbers (section "Packed Repeated Fields"). It borrows its bytes.
 #[derive(Drop)]
 pub struct Varints<'a> {
     rest: &'a [u8],

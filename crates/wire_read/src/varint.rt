@@ -54,7 +54,7 @@ fn read_groups(bytes: &[u8], at: u64) -> Result<(u64, &[u8]), WireFault>
 }
 
 #[inline]
-/// Reads the varint that begins the bytes: its value modulo 2^64, and the bytes after it.
+/// Reads the varint that begins the bytes (section "Base 128 Varints"): its value modulo 2^64, and the bytes after it.
 /// Spellings that are longer than they need to be are read too. `at` is the place of the first byte; a fault
 /// names it.
 pub fn read_varint(bytes: &[u8], at: u64) -> Result<(u64, &[u8]), WireFault>

@@ -2,7 +2,7 @@
 ghost use Rattle.std.specs.Prelude.{◌≡◌};
 ghost use Rattle.wire_read.specs.ZigZag.{unzigzag_of};
 
-/// The signed number that `n` stands for: 0, 1, 2, 3 stand for 0, -1, 1, -2.
+/// The signed number that `n` stands for, by ZigZag (section "Signed Integers"): 0, 1, 2, 3 stand for 0, -1, 1, -2.
 pub fn unzigzag(n: u64) -> i64
     ensures { result ≡ unzigzag_of n }
 {
