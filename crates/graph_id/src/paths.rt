@@ -6,8 +6,8 @@ ghost use Rattle.graph_id.specs.TilePath.{digit, group, groups, tile_path_of};
 use crate::ids::GraphId;
 use std::alloc::{AllocError, Global};
 
-/// The path of the file of a GraphId's tile, as Valhalla names its tiles: the level, then the tile number with leading zeros to
-/// six digits on levels 0 and 1 and to nine on level 2, cut into threes, joined by `/`, then `.gph`.
+/// The path of the file of a GraphId's tile, as Valhalla names its tiles: the level, then the tile number with leading
+/// zeros to six digits on levels 0 and 1 and to nine on level 2, cut into threes, joined by `/`, then `.gph`.
 #[tactic(auto, unfolding(crate::specs::TilePath::tile_path_of))]
 pub fn tile_path(alloc: Global, id: GraphId) -> Result<String, AllocError>
     requires three_levels { level_of id ≤ 2 }

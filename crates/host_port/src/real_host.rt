@@ -5,10 +5,14 @@ ghost use Rattle.host_port.specs.RealHost.{nothing};
 
 use crate::counts::one_more;
 use crate::host::{Host, HostFault};
-use std::io::{Read, Write};
+use std::fs::OpenOptions;
+use std::io::{ErrorKind, Read, Write};
 use std::path::Path;
 use std::rt::Files;
 use std::{fs, io};
+
+/// So many names are tried for a part of a file.
+const MOST_PARTS: u32 = 100;
 
 /// The files, folders and standard output that the program runs with. It tells nothing of them.
 ///
@@ -114,26 +118,34 @@ fn read_some<F: Read>(input: &mut Option<F>, buf: &mut [u8]) -> Option<usize>
     }
 }
 
-/// Makes the file hold these bytes, and before that the folders that are missing.
+/// Makes the file hold these bytes, and before that the folders that are missing. They are written to a file of their
+/// own, the part, which takes the path once it is whole. So an error leaves what had the path before, and no part.
 fn write_file<R: Files + Alloc>(rt: &R, path: &str, bytes: &[u8]) -> io::Result<()> {
     if let Some(folder) = Path::new(path).parent() {
         fs::create_dir_all(rt, folder)?;
     }
-    let mut part = String::from_str(rt.alloc(), path)?;
-    part.push_str(".part")?;
-    write_aside(rt, part.as_str(), path, bytes)
-}
-
-/// Writes the bytes to a file of its own, the part, and gives it the path once it is whole. So an error leaves what
-/// had the path before, and nothing of the part.
-fn write_aside(rt: &impl Files, part: &str, path: &str, bytes: &[u8]) -> io::Result<()> {
-    let file = fs::create(rt, part)?;
-    let written = write_whole(file, bytes).and_then(|()| fs::rename(rt, part, path));
+    let (file, part) = new_part(rt, path)?;
+    let written = write_whole(file, bytes).and_then(|()| fs::rename(rt, part.as_str(), path));
     if written.is_err() {
         // What went wrong first is what is answered.
-        let _ = fs::remove_file(rt, part);
+        let _ = fs::remove_file(rt, part.as_str());
     }
     written
+}
+
+/// A new file beside the one of that path, and its own path: the first of `PATH.part0`, `PATH.part1`, .. that nothing
+/// has, so that no other file is touched, as that of another run.
+fn new_part<R: Files + Alloc>(rt: &R, path: &str) -> io::Result<(R::File, String<R::A>)> {
+    for number in 0..MOST_PARTS {
+        let part = format!(in rt.alloc(); "{path}.part{number}")?;
+        let mut options = OpenOptions::new();
+        match options.write(true).create_new(true).open(rt, part.as_str()) {
+            Ok(file) => return Ok((file, part)),
+            Err(error) if error.kind() == ErrorKind::AlreadyExists => {}
+            Err(error) => return Err(error),
+        }
+    }
+    Err(io::Error::from(ErrorKind::AlreadyExists))
 }
 
 /// Writes the bytes to the file and closes it.

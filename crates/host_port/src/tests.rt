@@ -201,7 +201,7 @@ const FOLDER: &str = "host_port_test";
 
 const REAL_FILE: &str = "host_port_test/new/file";
 
-const PART: &str = "host_port_test/new/file.part";
+const PART: &str = "host_port_test/new/file.part0";
 
 /// Whether each fails: an opening of no file, a put where a folder stands, a read after a put.
 fn real_faults<H: Host>(host: &mut H) -> [bool; 3] {
@@ -212,26 +212,39 @@ fn real_faults<H: Host>(host: &mut H) -> [bool; 3] {
     ]
 }
 
-/// Whether a put fails where a folder has the path of the part, and one where a folder has the path itself; and whether
-/// something of a part is left.
-fn failed_puts<H: Host>(rt: &impl Files, host: &mut H) -> Result<[bool; 4], Fail> {
-    fs::create_dir(rt, PART)?;
+/// Whether a put fails where folders have all paths that a part may have, and one where a folder has the path itself;
+/// and whether something of a part is left.
+fn failed_puts<H: Host, R: Files + Alloc>(rt: &R, host: &mut H) -> Result<[bool; 3], Fail> {
+    for number in 0..100u32 {
+        fs::create_dir(
+            rt,
+            format!(in rt.alloc(); "{REAL_FILE}.part{number}")?.as_str(),
+        )?;
+    }
     let no_part = host.put(REAL_FILE, b"other bytes").is_err();
     fs::remove_dir(rt, PART)?;
     let no_path = host.put("host_port_test/new", b"other bytes").is_err();
-    let parts = [
-        fs::exists(rt, PART)?,
-        fs::exists(rt, "host_port_test/new.part")?,
-    ];
-    Ok([no_part, no_path, parts[0], parts[1]])
+    let is_left = fs::exists(rt, "host_port_test/new.part0")?;
+    Ok([no_part, no_path, is_left])
+}
+
+/// Whether a put fails where another file has the first path of a part, and whether something of the next is left.
+fn put_beside_a_part<H: Host>(rt: &impl Files, host: &mut H) -> Result<[bool; 2], Fail> {
+    fs::write(rt, PART, b"another run's")?;
+    let fails = host.put(REAL_FILE, b"hello, world").is_err();
+    let is_left = fs::exists(rt, "host_port_test/new/file.part1")?;
+    Ok([fails, is_left])
 }
 
 #[test]
 fn works_on_real_files(rt: HostRuntime) -> Result<(), Fail> {
     let mut host = RealHost::new(&rt);
     host.put(REAL_FILE, b"what was there before")?;
-    host.put(REAL_FILE, b"hello, world")?;
-    assert!(rt; failed_puts(&rt, &mut host)? == [true, true, false, false]);
+    assert!(rt; put_beside_a_part(&rt, &mut host)? == [false, false]);
+    let (part, _) = read_all(rt.alloc(), &mut host, PART)?;
+    assert!(rt; part.as_slice() == b"another run's".as_slice());
+    fs::remove_file(&rt, PART)?;
+    assert!(rt; failed_puts(&rt, &mut host)? == [true, true, false]);
     let (bytes, reads) = read_all(rt.alloc(), &mut host, REAL_FILE)?;
     assert!(rt; bytes.as_slice() == b"hello, world".as_slice());
     assert!(rt; reads == 3);
