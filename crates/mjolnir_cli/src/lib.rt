@@ -20,5 +20,5 @@ mod words;
 pub use answer::Answer;
 pub use failure::Failure;
 pub use law::one_end;
-pub use top::mjolnir;
+pub use top::{mjolnir, wordless};
 pub use words::{Command, asked};
