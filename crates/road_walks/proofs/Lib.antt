@@ -1,0 +1,10 @@
+pub mod Reverses
+pub mod Locals
+pub mod MaskLaw
+pub mod EdgeAgree
+pub mod PatternsAgree
+pub mod Stretches
+pub mod PieceMatchLaw
+pub mod ReadingLaw
+pub mod WorkedTurns
+pub mod WorkedStars
