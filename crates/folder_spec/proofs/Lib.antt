@@ -1,0 +1,11 @@
+pub mod LinkLaw
+pub mod ChainFacts
+pub mod ChainLemmas
+pub mod LevelLaw
+pub mod WalksAgree
+pub mod NameLaw
+pub mod TilesAgree
+pub mod TableLaw
+pub mod Whole
+pub mod Places
+pub mod Rising
