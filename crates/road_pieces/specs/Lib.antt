@@ -1,3 +1,4 @@
+pub mod Among
 pub mod Paths
 pub mod Following
 pub mod DirectedPiece

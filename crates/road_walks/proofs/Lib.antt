@@ -6,5 +6,10 @@ pub mod PatternsAgree
 pub mod Stretches
 pub mod PieceMatchLaw
 pub mod ReadingLaw
+pub mod Sorted
+pub mod PiecesAre
+pub mod PiecesOnce
+pub mod ListedLaws
+pub mod StageLaws
 pub mod WorkedTurns
 pub mod WorkedStars

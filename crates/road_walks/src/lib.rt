@@ -5,5 +5,6 @@
 mod laws;
 
 pub use laws::{
-    edges_agree, masks_tell, patterns_tell, pieces_tell_patterns, readings_agree, sequences_tell,
+    edges_agree, keep_gives_stage, lift_gives_stage, masks_tell, own_indexes, patterns_tell,
+    pieces_listed, pieces_tell_patterns, readings_agree, sequences_tell, stage_of_edges,
 };
