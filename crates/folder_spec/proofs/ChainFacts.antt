@@ -10,11 +10,11 @@ use Rattle.road_pieces.specs.Modes.{HasMode}
 use Rattle.road_pieces.specs.Rules.{Uses, Passes}
 use Rattle.road_pieces.specs.Pieces.{piece_start, piece_end}
 use Rattle.road_pieces.specs.Walks.{MayRide}
+use Rattle.road_walks.proofs.Reverses.{turned_twice, back_starts, kept_back}
 use Rattle.folder_spec.specs.Links.{last_of}
 use Rattle.road_walks.specs.BaseEdges.{FormatNumbers, reverse_of, local_index, IsMaskBit, IsFlagged}
 use Rattle.folder_spec.specs.Chains.{access_of, IsEdge, IsContractible, GoesThrough}
 use Rattle.road_walks.specs.EdgeWalks.{MayFollowOn}
-use Rattle.road_walks.proofs.Reverses.{turned_twice, back_starts, kept_back}
 
 pub edge_back : (x : Extract) (asked level : ℕ) (p : DirectedPiece) → IsEdge x asked level p → IsEdge x asked level (reverse_of p)
 edge_back x asked level p is = record { kept = kept_back x asked p is.kept; level_is = is.level_is }

@@ -9,3 +9,12 @@ pub mod TableLaw
 pub mod Whole
 pub mod Places
 pub mod Rising
+pub mod GraphLaw
+pub mod RowsLaw
+pub mod ChainsAt
+pub mod Passable
+pub mod BaseRoads
+pub mod TilesLow
+pub mod FolderAgree
+pub mod Headline
+pub mod WorkedRows

@@ -2,7 +2,7 @@
 use Rattle.std.proofs.Common.{◌≡◌, refl, sym, ◌∙◌, ap, subst, List, [], ◌∷◌, inl, inr}
 use Rattle.std.specs.Prelude.{⊤, All}
 use Rattle.std.proofs.lemmas.List.Elements.{All-head, All-tail}
-use Rattle.folder_spec.specs.Tables.{Among}
+use Rattle.road_pieces.specs.Among.{Among}
 
 abbrev pub Rising : {E : Type 0} → (E → E → Type 0) → List E → Type 0
 Rising Less [] = ⊤

@@ -7,28 +7,20 @@ use Rattle.std.proofs.lemmas.Bool.{both_ways, and_parts, eqb-true, eq-eqb}
 use Rattle.osm_model.specs.declared.extract.Extract.{Extract}
 use Rattle.road_pieces.specs.DirectedPiece.{DirectedPiece}
 use Rattle.road_pieces.specs.Rules.{way_access, node_access, node_tags, class_of}
-use Rattle.road_pieces.proofs.Members.{IsIn, contains_from_in, in_from_contains, in_flat, of_flat, in_map, of_map}
+use Rattle.road_pieces.proofs.Members.{in_from_among, among_from_in, IsIn, contains_from_in, in_from_contains, in_flat, of_flat, in_map, of_map}
 use Rattle.folder_spec.specs.Links.{Link, base_link}
 use Rattle.road_walks.specs.BaseEdges.{FormatNumbers, is_same, IsStoredSequence}
 use Rattle.folder_spec.specs.Chains.{HasNode}
 use Rattle.folder_spec.specs.FolderWalks.{AreLinked, from_node, link_level}
 use Rattle.tile_graph.specs.Graphs.{GraphEdge, GraphNode, GraphSequence, Graph}
 use Rattle.folder_spec.specs.Renders.{Renders}
-use Rattle.folder_spec.specs.Tables.{Among, first_index, NodeRow, TileRows, Table, id_by, no_node, no_tile, same_list, same_link, is_tile, is_node, tile_at, node_at, links_of, node_id, link_id, edge_row, node_row, sequence_row, graph_of, IsRowOf, IsTable}
+use Rattle.road_pieces.specs.Among.{Among}
+use Rattle.folder_spec.specs.Tables.{first_index, NodeRow, TileRows, Table, no_node, no_tile, same_list, same_link, is_tile, is_node, tile_at, node_at, links_of, node_id, link_id, edge_row, node_row, sequence_row, graph_of, IsRowOf, IsTable}
+use Rattle.graph_id.specs.GraphId.{value_of}
 use Rattle.road_walks.proofs.Locals.{same_itself, same_only, and_both}
 use Rattle.folder_spec.proofs.WalksAgree.{node_from}
 
 -- the two words for standing in a list say the same
-pub to_in : {E : Type 0} (es : List E) (e : E) → Among es e → IsIn es e
-to_in [] e h = absurd h
-to_in (f ∷ es) e (inl is) = inl is
-to_in (f ∷ es) e (inr h) = inr (to_in es e h)
-
-pub from_in : {E : Type 0} (es : List E) (e : E) → IsIn es e → Among es e
-from_in [] e h = absurd h
-from_in (f ∷ es) e (inl is) = inl is
-from_in (f ∷ es) e (inr h) = inr (from_in es e h)
-
 -- at the first place at which a test passes that some element passes, there is one that passes
 abbrev pub Found : {E : Type 0} → (E → Bool) → List E → E → ℕ → Type 0
 Found test es d k = (test (get_or es k d) ≡ true) × Among es (get_or es k d)
@@ -67,7 +59,7 @@ link_only k l h =
     λ i. record { first = first i; more = more i }
 
 -- a number tells its level, tile and place
-id_own : (k l c d i j : ℕ) → k < 8 → l < 8 → c < 4_194_304 → d < 4_194_304 → id_by k c i ≡ id_by l d j → (k ≡ l) × (c ≡ d) × (i ≡ j)
+id_own : (k l c d i j : ℕ) → k < 8 → l < 8 → c < 4_194_304 → d < 4_194_304 → value_of k c i ≡ value_of l d j → (k ≡ l) × (c ≡ d) × (i ≡ j)
 id_own k l c d i j hk hl hc hd h =
     let place : i ≡ j = omega (arith, h, hk, hl, hc, hd) in
     let tile : c ≡ d = omega (arith, h, hk, hl, place) in
@@ -142,7 +134,7 @@ module _ (x : Extract) (asked : ℕ) (numbers : FormatNumbers) (tile_of : ℕ �
   among_tile l is =
       let r : Row (from_node x l) (link_level x l) = row_of l is in
       subst (λ rows. Among (links_of rows) l) (sym (tile_by_is (from_node x l) (link_level x l) r))
-      (from_in (links_of r.rows) l (in_flat (λ s. s.links) r.rows.nodes r.row l (to_in r.rows.nodes r.row r.among) (to_in r.row.links l (among_links l is))))
+      (among_from_in (links_of r.rows) l (in_flat (λ s. s.links) r.rows.nodes r.row l (in_from_among r.rows.nodes r.row r.among) (in_from_among r.row.links l (among_links l is))))
 
   edge_own : (k l : Link DirectedPiece) → Exists k → Exists l → link_id x t tile_of k ≡ link_id x t tile_of l → k ≡ l
   edge_own k l is_k is_l same =
@@ -169,7 +161,7 @@ module _ (x : Extract) (asked : ℕ) (numbers : FormatNumbers) (tile_of : ℕ �
   node_there n k has =
       let r : Row n k = table.node_there n k has in
       let here : IsIn graph.nodes (node_row x t tile_of r.row.osm r.rows.level) =
-      in_flat node_rows t.tiles r.rows (node_row x t tile_of r.row.osm r.rows.level) (to_in t.tiles r.rows r.there) (in_map (λ s. node_row x t tile_of s.osm r.rows.level) r.rows.nodes r.row (to_in r.rows.nodes r.row r.among)) in
+      in_flat node_rows t.tiles r.rows (node_row x t tile_of r.row.osm r.rows.level) (in_from_among t.tiles r.rows r.there) (in_map (λ s. node_row x t tile_of s.osm r.rows.level) r.rows.nodes r.row (in_from_among r.rows.nodes r.row r.among)) in
       contains_from_in graph.nodes (node_row x t tile_of n k)
       (subst (λ m. IsIn graph.nodes (node_row x t tile_of m k)) r.osm_is (subst (λ l. IsIn graph.nodes (node_row x t tile_of r.row.osm l)) r.level_is here))
 
@@ -177,14 +169,14 @@ module _ (x : Extract) (asked : ℕ) (numbers : FormatNumbers) (tile_of : ℕ �
   node_only g there =
       let (rows, (in_tiles, in_rows)) = of_flat node_rows t.tiles g (in_from_contains graph.nodes g there) in
       let (r, (in_nodes, same)) = of_map (λ s. node_row x t tile_of s.osm rows.level) rows.nodes g in_rows in
-      (r.osm, (rows.level, (table.node_is rows r (from_in t.tiles rows in_tiles) (from_in rows.nodes r in_nodes), same)))
+      (r.osm, (rows.level, (table.node_is rows r (among_from_in t.tiles rows in_tiles) (among_from_in rows.nodes r in_nodes), same)))
 
   edge_there : (l : Link DirectedPiece) → Exists l → Contains (node_row x t tile_of (from_node x l) (link_level x l)).edges (edge_row x t tile_of l)
   edge_there l is =
       let links : List (Link DirectedPiece) = (node_at t tile_of (from_node x l) (link_level x l)).links in
       let among : Among links l =
       subst (λ r. Among r.links l) (sym (row_is (from_node x l) (link_level x l) (row_of l is))) (among_links l is) in
-      contains_from_in (map (edge_row x t tile_of) links) (edge_row x t tile_of l) (in_map (edge_row x t tile_of) links l (to_in links l among))
+      contains_from_in (map (edge_row x t tile_of) links) (edge_row x t tile_of l) (in_map (edge_row x t tile_of) links l (in_from_among links l among))
 
   edge_only : (n : ℤ) (k : ℕ) (e : GraphEdge) → HasNode x asked n k → Contains (node_row x t tile_of n k).edges e → (l : Link DirectedPiece) × (Exists l × ((from_node x l ≡ n) × ((link_level x l ≡ k) × (edge_row x t tile_of l ≡ e))))
   edge_only n k e has there =
@@ -192,7 +184,7 @@ module _ (x : Extract) (asked : ℕ) (numbers : FormatNumbers) (tile_of : ℕ �
       let links : List (Link DirectedPiece) = (node_at t tile_of n k).links in
       let (l, (inside, same)) =
       of_map (edge_row x t tile_of) links e (in_from_contains (map (edge_row x t tile_of) links) e there) in
-      let among : Among r.row.links l = subst (λ s. Among s.links l) (row_is n k r) (from_in links l inside) in
+      let among : Among r.row.links l = subst (λ s. Among s.links l) (row_is n k r) (among_from_in links l inside) in
       let (is, (from, level)) = (table.links_are r.rows r.row r.there r.among l).0 among in
       (l, (is, (from ∙ r.osm_is, (level ∙ r.level_is, same))))
 
@@ -202,7 +194,7 @@ module _ (x : Extract) (asked : ℕ) (numbers : FormatNumbers) (tile_of : ℕ �
       let levels : List ℕ = (node_at t tile_of n k).levels in
       let (l, (inside, same)) =
       of_map (node_id t tile_of n) levels id (in_from_contains (map (node_id t tile_of n) levels) id there) in
-      let among : Among r.row.levels l = subst (λ s. Among s.levels l) (row_is n k r) (from_in levels l inside) in
+      let among : Among r.row.levels l = subst (λ s. Among s.levels l) (row_is n k r) (among_from_in levels l inside) in
       let (has_l, apart) = (table.levels_are r.rows r.row r.there r.among l).0 among in
       (l, (subst (λ m. HasNode x asked m l) r.osm_is has_l, (λ h. apart (r.level_is ∙ h), sym same)))
 
@@ -213,19 +205,19 @@ module _ (x : Extract) (asked : ℕ) (numbers : FormatNumbers) (tile_of : ℕ �
       let among : Among r.row.levels l =
       (table.levels_are r.rows r.row r.there r.among l).1 (subst (λ m. HasNode x asked m l) (sym r.osm_is) has_l, λ h. apart (sym r.level_is ∙ h)) in
       let inside : IsIn levels l =
-      to_in levels l (subst (λ s. Among s.levels l) (sym (row_is n k r)) among) in
+      in_from_among levels l (subst (λ s. Among s.levels l) (sym (row_is n k r)) among) in
       contains_from_in (map (node_id t tile_of n) levels) id
       (subst (IsIn (map (node_id t tile_of n) levels)) (sym e) (in_map (node_id t tile_of n) levels l inside))
 
   sequence_there : (seq : List DirectedPiece) (modes : ℕ) → IsStoredSequence x asked numbers seq modes → Contains graph.sequences (sequence_row x t tile_of (seq, modes))
   sequence_there seq modes written =
       contains_from_in graph.sequences (sequence_row x t tile_of (seq, modes))
-      (in_map (sequence_row x t tile_of) t.sequences (seq, modes) (to_in t.sequences (seq, modes) ((table.sequences_are seq modes).1 written)))
+      (in_map (sequence_row x t tile_of) t.sequences (seq, modes) (in_from_among t.sequences (seq, modes) ((table.sequences_are seq modes).1 written)))
 
   sequence_only : (s : GraphSequence) → Contains graph.sequences s → (seq : List DirectedPiece) × (IsStoredSequence x asked numbers seq s.modes × (s.edges ≡ map (λ p. link_id x t tile_of (base_link p)) seq))
   sequence_only s there =
       let (e, (inside, same)) = of_map (sequence_row x t tile_of) t.sequences s (in_from_contains graph.sequences s there) in
-      let written : IsStoredSequence x asked numbers e.0 e.1 = (table.sequences_are e.0 e.1).0 (from_in t.sequences e inside) in
+      let written : IsStoredSequence x asked numbers e.0 e.1 = (table.sequences_are e.0 e.1).0 (among_from_in t.sequences e inside) in
       (e.0, (subst (IsStoredSequence x asked numbers e.0) (ap (λ r. r.modes) same) written, sym (ap (λ r. r.edges) same)))
 
   pub renders : Renders x asked numbers graph

@@ -16,14 +16,14 @@ use Rattle.road_pieces.proofs.Agree.{same_walks}
 use Rattle.folder_spec.specs.Links.{Link, base_link, edges_of, last_of}
 use Rattle.folder_spec.specs.Levels.{LevelNode, level_node, LevelItem, edges_in, IsItem, item_start, item_end}
 use Rattle.road_walks.specs.BaseEdges.{FormatNumbers, reverse_of, IsFlagged, IsStoredSequence}
-use Rattle.folder_spec.specs.Chains.{level_of, IsEdge, HasNode, GoesThrough}
-use Rattle.folder_spec.specs.FolderWalks.{AreLinked, MayTake, from_node, to_node, link_cm, link_level, MayLink, LinkWalk, LevelWalk, SameLinks, SameLevels, SameRoads}
+use Rattle.folder_spec.specs.Chains.{piece_level, IsEdge, HasNode, GoesThrough}
 use Rattle.road_walks.specs.EdgeWalks.{MayFollowOn, EdgeWalk}
+use Rattle.folder_spec.specs.FolderWalks.{AreLinked, MayTake, from_node, to_node, link_cm, link_level, MayLink, LinkWalk, LevelWalk, SameLinks, SameLevels, SameRoads}
 use Rattle.road_walks.proofs.EdgeAgree.{kept_of, to_edge_walk, to_piece_walk}
-use Rattle.road_walks.proofs.Reverses.{kept_back, back_starts}
 use Rattle.folder_spec.proofs.LinkLaw as links
 use Rattle.folder_spec.proofs.LevelLaw as levels
 use Rattle.folder_spec.proofs.ChainFacts.{rides, plain, leads_end, last_is}
+use Rattle.road_walks.proofs.Reverses.{kept_back, back_starts}
 
 module _ (x : Extract) (asked : ℕ) (numbers : FormatNumbers) (mode : ℕ) where
   abbrev EdgeLead : ℤ → List DirectedPiece → ℤ → Type 0
@@ -87,12 +87,12 @@ module _ (x : Extract) (asked : ℕ) (numbers : FormatNumbers) (mode : ℕ) wher
       }
 
   -- levels
-  pub node_from : (p : DirectedPiece) (more : List DirectedPiece) → AreLinked x asked numbers p more → HasNode x asked (piece_start x p) (level_of x p)
+  pub node_from : (p : DirectedPiece) (more : List DirectedPiece) → AreLinked x asked numbers p more → HasNode x asked (piece_start x p) (piece_level x p)
   node_from p [] is = record { piece = p; is = record { kept = is; level_is = refl }; starts = refl }
   node_from p (q ∷ qs) (level, chain) =
       record { piece = p; is = record { kept = chain.leads.0.kept; level_is = refl }; starts = refl }
 
-  pub node_to : (p : DirectedPiece) (more : List DirectedPiece) → AreLinked x asked numbers p more → HasNode x asked (piece_end x (last_of p more)) (level_of x p)
+  pub node_to : (p : DirectedPiece) (more : List DirectedPiece) → AreLinked x asked numbers p more → HasNode x asked (piece_end x (last_of p more)) (piece_level x p)
   node_to p [] is = record { piece = reverse_of p; is = record { kept = kept_back x asked p is; level_is = refl }; starts = back_starts x p }
   node_to p (q ∷ qs) (level, chain) =
       let end : DirectedPiece = last_of p (q ∷ qs) in
@@ -111,12 +111,12 @@ module _ (x : Extract) (asked : ℕ) (numbers : FormatNumbers) (mode : ℕ) wher
   to_level_walk : (a b : ℤ) (total : ℕ) → LinkWalk x asked numbers mode a b total → LevelWalk x asked numbers mode a b total
   to_level_walk a b total w =
       let (p, is, kept, starts) = w.starts in
-      let here : HasNode x asked a (level_of x p) =
+      let here : HasNode x asked a (piece_level x p) =
       record { piece = p; is = record { kept = record { exists = is; kept = kept }; level_is = refl }; starts = starts } in
       let found =
-      levels.to_items (MayTake x asked numbers mode) (from_node x) (to_node x) (link_level x) (HasNode x asked) (λ l may. node_from l.first l.more may.exists) (λ l may. node_to l.first l.more may.exists) w.links a b (level_of x p) (leads_any (MayTake x asked numbers mode) (from_node x) (to_node x) (MayLink x numbers mode) w.links a b w.leads) here in
+      levels.to_items (MayTake x asked numbers mode) (from_node x) (to_node x) (link_level x) (HasNode x asked) (λ l may. node_from l.first l.more may.exists) (λ l may. node_to l.first l.more may.exists) w.links a b (piece_level x p) (leads_any (MayTake x asked numbers mode) (from_node x) (to_node x) (MayLink x numbers mode) w.links a b w.leads) here in
       record {
-        from_level = level_of x p;
+        from_level = piece_level x p;
         to_level = found.at;
         starts = here;
         ends = found.ends;

@@ -9,15 +9,23 @@ use Rattle.road_pieces.specs.Pieces.{piece_start, piece_end}
 use Rattle.road_pieces.specs.Lengths.{piece_cm}
 use Rattle.road_walks.specs.BaseEdges.{FormatNumbers, reverse_of, local_index, IsKept, IsMaskBit, IsFlagged}
 
--- the level of a class, and of a piece
+-- a chain has at most so many edges, and an edge is at most so many centimetres long
+abbrev pub most_chain_edges : ℕ
+most_chain_edges = 65_535
+
+abbrev pub most_edge_cm : ℕ
+most_edge_cm = 268_435_455
+
+-- the level of a class: motorway to primary on level 0, secondary and tertiary on level 1, all others on level 2
 abbrev pub level_of_class : ℕ → ℕ
 level_of_class class = if nat_le class 2 then 0 else (if nat_le class 4 then 1 else 2)
 
+-- the class and the level of a piece
 abbrev pub piece_class : Extract → DirectedPiece → ℕ
 piece_class x p = class_of (way_tags x p.way)
 
-abbrev pub level_of : Extract → DirectedPiece → ℕ
-level_of x p = level_of_class (piece_class x p)
+abbrev pub piece_level : Extract → DirectedPiece → ℕ
+piece_level x p = level_of_class (piece_class x p)
 
 -- the modes that may use a piece in its direction
 abbrev pub access_of : Extract → DirectedPiece → ℕ
@@ -26,7 +34,7 @@ access_of x p = way_access x p.way p.forward
 -- a base edge of a level
 pub record IsEdge (x : Extract) (asked level : ℕ) (p : DirectedPiece) : Type 0 where
   pub kept : IsKept x asked p
-  pub level_is : level_of x p ≡ level
+  pub level_is : piece_level x p ≡ level
 
 -- a junction has a node on a level: a kept piece of that level starts there
 pub record HasNode (x : Extract) (asked : ℕ) (n : ℤ) (level : ℕ) : Type 0 where
@@ -75,5 +83,5 @@ pub record IsChain (x : Extract) (asked : ℕ) (numbers : FormatNumbers) (level 
   pub begins : IsContractible x asked numbers level start → ⊥
   pub ends : IsContractible x asked numbers level end → ⊥
   pub two : 2 ≤ length chain
-  pub few : length chain ≤ 65_535
-  pub short : sum_by (piece_cm x) chain ≤ 268_435_455
+  pub few : length chain ≤ most_chain_edges
+  pub short : sum_by (piece_cm x) chain ≤ most_edge_cm

@@ -13,7 +13,7 @@ use Rattle.road_walks.specs.EdgeWalks.{MayFollowOn, EdgeWalk}
 use Rattle.folder_spec.specs.Links.{Link, base_link, edges_of, last_edge}
 use Rattle.folder_spec.specs.Levels.{level_node, LevelItem, edges_in, IsItem, item_start, item_end}
 use Rattle.road_walks.specs.BaseEdges.{FormatNumbers, IsKept, IsStoredSequence}
-use Rattle.folder_spec.specs.Chains.{IsChain, HasNode, level_of}
+use Rattle.folder_spec.specs.Chains.{IsChain, HasNode, piece_level}
 
 -- a link of the folder: a kept piece, or a chain
 abbrev pub AreLinked : Extract → ℕ → FormatNumbers → DirectedPiece → List DirectedPiece → Type 0
@@ -47,7 +47,7 @@ pub record LinkWalk (x : Extract) (asked : ℕ) (numbers : FormatNumbers) (mode 
 
 -- items: links, and transitions between the nodes of a junction
 abbrev pub link_level : Extract → Link DirectedPiece → ℕ
-link_level x link = level_of x link.first
+link_level x link = piece_level x link.first
 
 -- a walk over the nodes of the levels, with transitions
 pub record LevelWalk (x : Extract) (asked : ℕ) (numbers : FormatNumbers) (mode : ℕ) (a b : ℤ) (total : ℕ) : Type 0 where

@@ -4,3 +4,7 @@ pub mod Chains
 pub mod FolderWalks
 pub mod Renders
 pub mod Tables
+pub mod Rows
+pub mod Records
+pub mod FolderLaws
+pub mod Folder

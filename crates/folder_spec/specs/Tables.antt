@@ -1,9 +1,11 @@
 -- The table of what a folder holds: tiles, nodes, links, transitions, sequences; and the graph of the table, where
--- an id is a place in the order.
-use Rattle.std.specs.Prelude.{◌≡◌, ◌≢◌, ◌⊎◌, ◌↔◌, ◌&&◌, ℕ, suc, ◌+◌, ◌*◌, ◌<◌, ℤ, pos, Bool, true, false, List, [], ◌∷◌, map, get_or, nat_eq, if◌then◌else◌}
+-- the id in a GraphId is the index in the order.
+use Rattle.std.specs.Prelude.{◌≡◌, ◌≢◌, ◌↔◌, ◌&&◌, ℕ, suc, ◌<◌, ℤ, pos, Bool, true, false, List, [], ◌∷◌, map, get_or, nat_eq, if◌then◌else◌}
 use Rattle.std.specs.Int.{IsBitSet}
 use Rattle.std.specs.List.{flat_map}
 use Rattle.std.specs.Ordering.{int_eq}
+use Rattle.graph_id.specs.GraphId.{value_of}
+use Rattle.road_pieces.specs.Among.{Among}
 use Rattle.osm_model.specs.declared.extract.Extract.{Extract}
 use Rattle.road_pieces.specs.DirectedPiece.{DirectedPiece}
 use Rattle.road_pieces.specs.Rules.{way_access, node_access, node_tags}
@@ -15,34 +17,28 @@ use Rattle.tile_graph.specs.Graphs.{GraphEdge, GraphNode, GraphSequence, Graph, 
 use Rattle.road_pieces.specs.Modes.{HasMode}
 use Rattle.road_pieces.specs.Walks.{RoadWalk}
 
--- an element stands in a list
-abbrev pub Among : {E : Type 0} → List E → E → Type 0
-Among [] e = ⊥
-Among (f ∷ fs) e = (f ≡ e) ⊎ Among fs e
-
--- the first place at which the test passes
+-- the index of the first element that passes the test; where there is none, the number of elements
 abbrev pub first_index : {E : Type 0} → (E → Bool) → List E → ℕ
 first_index test [] = 0
 first_index test (e ∷ es) = if test e then 0 else suc (first_index test es)
 
+-- a node: its junction, its links in order, and the other levels on which the junction has a node
 pub record NodeRow : Type 0 where
   pub osm : ℤ
   pub links : List (Link DirectedPiece)
   pub levels : List ℕ
 
+-- the nodes of a tile of a level
 pub record TileRows : Type 0 where
   pub level : ℕ
   pub tile : ℕ
   pub nodes : List NodeRow
 
+-- the tiles, the stored sequences with their modes, and the mask of each edge
 pub record Table : Type 0 where
   pub tiles : List TileRows
   pub sequences : List (List DirectedPiece × ℕ)
   pub mask : DirectedPiece → ℕ
-
--- the number of a node or an edge by its level, tile and place
-abbrev pub id_by : ℕ → ℕ → ℕ → ℕ
-id_by level tile place = level + (8 * tile + 33_554_432 * place)
 
 abbrev pub no_node : NodeRow
 no_node = record { osm = pos 0; links = []; levels = [] }
@@ -77,14 +73,16 @@ node_at t tile_of n level =
 abbrev pub links_of : TileRows → List (Link DirectedPiece)
 links_of rows = flat_map (λ r. r.links) rows.nodes
 
+-- the GraphId of a junction's node on a level, and of a link
 abbrev pub node_id : Table → (ℕ → ℤ → ℕ) → ℤ → ℕ → ℕ
 node_id t tile_of n level =
-    id_by level (tile_of level n) (first_index (is_node n) (tile_at t level (tile_of level n)).nodes)
+    value_of level (tile_of level n) (first_index (is_node n) (tile_at t level (tile_of level n)).nodes)
 
 abbrev pub link_id : Extract → Table → (ℕ → ℤ → ℕ) → Link DirectedPiece → ℕ
 link_id x t tile_of l =
-    id_by (link_level x l) (tile_of (link_level x l) (from_node x l)) (first_index (same_link l) (links_of (tile_at t (link_level x l) (tile_of (link_level x l) (from_node x l)))))
+    value_of (link_level x l) (tile_of (link_level x l) (from_node x l)) (first_index (same_link l) (links_of (tile_at t (link_level x l) (tile_of (link_level x l) (from_node x l)))))
 
+-- the records of a link, of a node and of a sequence
 abbrev pub edge_row : Extract → Table → (ℕ → ℤ → ℕ) → Link DirectedPiece → GraphEdge
 edge_row x t tile_of l = record {
   id = link_id x t tile_of l;
@@ -125,6 +123,10 @@ pub record IsRowOf (t : Table) (tile_of : ℕ → ℤ → ℕ) (n : ℤ) (level 
   pub tile_is : rows.tile ≡ tile_of level n
   pub osm_is : row.osm ≡ n
 
+-- the tile number of a GraphId has 22 bits
+abbrev pub tile_limit : ℕ
+tile_limit = 4_194_304
+
 -- the table of an extract: what stands in it, and that it stands once; the order isn't said here
 pub record IsTable (x : Extract) (asked : ℕ) (numbers : FormatNumbers) (tile_of : ℕ → ℤ → ℕ) (t : Table) : Type 0 where
   pub node_there : (n : ℤ) (level : ℕ) → HasNode x asked n level → IsRowOf t tile_of n level
@@ -135,8 +137,8 @@ pub record IsTable (x : Extract) (asked : ℕ) (numbers : FormatNumbers) (tile_o
   pub levels_are : (rows : TileRows) (r : NodeRow) → Among t.tiles rows → Among rows.nodes r → (level : ℕ) → Among r.levels level ↔ (HasNode x asked r.osm level × (rows.level ≢ level))
   pub sequences_are : (seq : List DirectedPiece) (modes : ℕ) → Among t.sequences (seq, modes) ↔ IsStoredSequence x asked numbers seq modes
   pub mask_is : (l : Link DirectedPiece) → AreLinked x asked numbers l.first l.more → (i : ℕ) → IsBitSet (t.mask (last_edge l)) i ↔ IsMaskBit x numbers (last_edge l) i
-  pub tiles_low : (n : ℤ) (level : ℕ) → HasNode x asked n level → tile_of level n < 4_194_304
+  pub tiles_low : (n : ℤ) (level : ℕ) → HasNode x asked n level → tile_of level n < tile_limit
 
--- the law: for the graph of the extract's table, a road walk exactly where a tile walk
+-- The law of tables: for the graph of the extract's table, a road walk exactly where a tile walk
 abbrev pub SameTableWalks : Type 0
 SameTableWalks = (x : Extract) (asked : ℕ) (numbers : FormatNumbers) (tile_of : ℕ → ℤ → ℕ) (t : Table) → IsTable x asked numbers tile_of t → (mode : ℕ) → HasMode numbers.all mode → (a b : ℤ) (total : ℕ) → RoadWalk x asked mode a b total ↔ TileWalk (graph_of x t tile_of) numbers.vehicles mode a b total

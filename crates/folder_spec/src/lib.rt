@@ -3,4 +3,7 @@
 
 mod laws;
 
-pub use laws::{levels_agree, links_agree, roads_agree, table_walks_agree, tiles_agree};
+pub use laws::{
+    folder_has_walks, folder_walks_agree, graph_agrees, levels_agree, links_agree, roads_agree,
+    roads_from_lists, rows_agree, rows_in_order, table_walks_agree, tiles_agree,
+};
