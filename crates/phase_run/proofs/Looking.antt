@@ -47,10 +47,10 @@ not-shorter j holder count xs ys h = omega (arith, ap length h.gained, length-ap
 
 gained-none : (j holder : ℕ) (xs ys : List (ℕ × ℕ)) → GainedTries j holder 0 xs ys → ys ≡ xs
 gained-none j holder xs ys h = h.gained ∙ ap (λ l. xs ++ l) (none-of h.tries h.many) ∙ append-nil xs
-    where
-      none-of : (ts : List (ℕ × ℕ)) → length ts ≡ 0 → ts ≡ []
-      none-of [] e = refl
-      none-of (t ∷ ts) e = absurd (omega (arith, e))
+  where
+    none-of : (ts : List (ℕ × ℕ)) → length ts ≡ 0 → ts ≡ []
+    none-of [] e = refl
+    none-of (t ∷ ts) e = absurd (omega (arith, e))
 
 -- where no try was lost, the list is what it was
 gained-nothing : (j holder count : ℕ) (xs ys : List (ℕ × ℕ)) → count ≡ 0 → GainedTries j holder count xs ys → ys ≡ xs

@@ -41,9 +41,9 @@ times-last a (x ∷ xs) = omega (arith, times-last a xs)
 -- a pair that stands in a list with one more at its end stands in the list, or is that one
 pairs-back : (a b c d : ℕ) (xs : List (ℕ × ℕ)) → 0 < pairs a b (xs ++ (c, d) ∷ []) → (0 < pairs a b xs) ⊎ (b ≡ d)
 pairs-back a b c d [] h = inr (sym (second c a d b h))
-    where
-      second : (c a d b : ℕ) → 0 < bit ((c == a) && (d == b)) + 0 → d ≡ b
-      second c a d b h = grind arith
+  where
+    second : (c a d b : ℕ) → 0 < bit ((c == a) && (d == b)) + 0 → d ≡ b
+    second c a d b h = grind arith
 pairs-back a b c d (p ∷ xs) h =
     elim ((p.0 == a) && (p.1 == b)) as (λ t. 0 < bit t + pairs a b (xs ++ (c, d) ∷ []) → (0 < bit t + pairs a b xs) ⊎ (b ≡ d)) [
       | true ↦ λ h. inl (omega arith)
@@ -288,8 +288,21 @@ module _ {X T Q : Type 0} {g : Ghosts X T Q} where
             λ i inside. visited-still (view low_then) (view both) i (view up_then).claims (view up_then).seen (ap (λ x. x.claims) e) (ap (λ x. x.seen) e)
             (h.visited i (omega (arith, inside, ap (λ x. length x.world) l)));
         accounts =
-            omega (arith, h.accounts, k.accounts, ap (λ x. length x.claims) l, ap (λ x. length x.marks) l, ap (λ x. length x.lost) l,
-            ap (λ x. length x.claims) u, ap (λ x. length x.marks) u, ap (λ x. length x.lost) u,
-            ap (λ x. length x.claims) e, ap (λ x. length x.marks) e, ap (λ x. length x.lost) e,
-            length-append (view low_then).claims (view up_then).claims, length-append (view low_then).marks (view up_then).marks, length-append (view low_then).lost (view up_then).lost);
+            omega (
+              arith,
+              h.accounts,
+              k.accounts,
+              ap (λ x. length x.claims) l,
+              ap (λ x. length x.marks) l,
+              ap (λ x. length x.lost) l,
+              ap (λ x. length x.claims) u,
+              ap (λ x. length x.marks) u,
+              ap (λ x. length x.lost) u,
+              ap (λ x. length x.claims) e,
+              ap (λ x. length x.marks) e,
+              ap (λ x. length x.lost) e,
+              length-append (view low_then).claims (view up_then).claims,
+              length-append (view low_then).marks (view up_then).marks,
+              length-append (view low_then).lost (view up_then).lost,
+            );
       }

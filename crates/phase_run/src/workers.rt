@@ -58,11 +58,28 @@ where
     let left = move || -> (Seat<P>, bool)
         requires { IsSync R.row × IsSync P.row × IsSync G.row × IsSend P.Tile.row × IsSend P.Part.row × (1 ≤ half) × Ready table.now (P.fits phase.now) (P.finished phase.now) seat × ((view seat).end ≡ (view seat).first + half) }
         ensures { Worked seat result.0 × (result.1 ≡ true → WentOver (view seat) (view result.0)) }
-    { run_seats(rt, alloc, phase, number, table, seat, half, from, between, gate) };
+    {
+        run_seats(
+            rt, alloc, phase, number, table, seat, half, from, between, gate,
+        )
+    };
     let right = move || -> (Seat<P>, bool)
         requires { IsSync R.row × IsSync P.row × IsSync G.row × IsSend P.Tile.row × IsSend P.Part.row × (half < workers) × Ready table.now (P.fits phase.now) (P.finished phase.now) upper × ((view upper).end ≡ (view upper).first + (workers - half)) }
         ensures { Worked upper result.0 × (result.1 ≡ true → WentOver (view upper) (view result.0)) }
-    { run_seats(rt, alloc, phase, number, table, upper, workers - half, between, to, gate) };
+    {
+        run_seats(
+            rt,
+            alloc,
+            phase,
+            number,
+            table,
+            upper,
+            workers - half,
+            between,
+            to,
+            gate,
+        )
+    };
     let ((mut lower, low), (upper, high)) = join(rt, left, right);
     table.join(&mut lower, upper);
     (lower, low && high)
