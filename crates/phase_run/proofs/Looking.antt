@@ -1,5 +1,5 @@
 -- tries of a turn one after the other, and what is read under it
-use Rattle.std.proofs.Common.{◌≡◌, ℕ, ◌+◌, ◌-◌, ◌<◌, ◌≤◌, Bool, true, false, List, [], ◌∷◌, ◌++◌, length, length-append, map, refl, ap, sym, ◌∙◌, subst, arith}
+use Rattle.std.proofs.Common.{◌≡◌, ℕ, zero, suc, ◌+◌, ◌-◌, ◌<◌, ◌≤◌, Bool, true, false, List, [], ◌∷◌, ◌++◌, length, length-append, map, refl, ap, sym, ◌∙◌, subst, ⊎_elim, arith}
 use Rattle.std.proofs.lemmas.List.{append-nil, append_assoc}
 use Rattle.std.proofs.lemmas.List.Elements.{All-nil, All-push}
 use Rattle.std.proofs.Math.ListN.{get_elem?}
@@ -12,12 +12,12 @@ use Rattle.tile_table.specs.declared.view.Hand.TheVariants.{Empty}
 use Rattle.tile_table.specs.declared.seat.Seat.{Seat}
 use Rattle.tile_table.specs.declared.seat.Turn.{Turn}
 use Rattle.tile_table.specs.Counts.{times, pairs}
-use Rattle.tile_table.specs.Views.{tiles_by, with_no_hand}
+use Rattle.tile_table.specs.Views.{tiles_by, with_no_hand, IsAnother}
 use Rattle.tile_table.specs.Calls.{TurnHad, TurnMissed}
 use Rattle.tile_table.specs.Seats.{view, seat_name, turn_place, turn_tile, turn_marked}
 use Rattle.phase_run.specs.Tries.{GainedTries}
-use Rattle.phase_run.specs.Looks.{Unchanged, TurnGot, Looked, Shown}
-use Rattle.phase_run.specs.Stays.{unchanged-same, unchanged-on}
+use Rattle.phase_run.specs.Looks.{IsAlone, Unchanged, Loses, TookOne, TurnGot, Looked, Shown}
+use Rattle.phase_run.specs.Stays.{unchanged-same, unchanged-on, loses-on}
 
 -- no try yet
 pub no-tries : (j holder : ℕ) (xs : List (ℕ × ℕ)) → GainedTries j holder 0 xs xs
@@ -45,6 +45,18 @@ one-more-try j other holder count xs ys zs so_far e =
 pub not-shorter : (j holder count : ℕ) (xs ys : List (ℕ × ℕ)) → GainedTries j holder count xs ys → length xs ≤ length ys
 not-shorter j holder count xs ys h = omega (arith, ap length h.gained, length-append xs h.tries)
 
+gained-none : (j holder : ℕ) (xs ys : List (ℕ × ℕ)) → GainedTries j holder 0 xs ys → ys ≡ xs
+gained-none j holder xs ys h = h.gained ∙ ap (λ l. xs ++ l) (none-of h.tries h.many) ∙ append-nil xs
+  where
+    none-of : (ts : List (ℕ × ℕ)) → length ts ≡ 0 → ts ≡ []
+    none-of [] e = refl
+    none-of (t ∷ ts) e = absurd (omega (arith, e))
+
+-- where no try was lost, the list is what it was
+gained-nothing : (j holder count : ℕ) (xs ys : List (ℕ × ℕ)) → count ≡ 0 → GainedTries j holder count xs ys → ys ≡ xs
+gained-nothing j holder zero xs ys e h = gained-none j holder xs ys h
+gained-nothing j holder (suc count) xs ys e h = absurd (omega (arith, e))
+
 -- a list that gained 1,000 pairs is longer
 pub longer : (j holder : ℕ) (xs ys : List (ℕ × ℕ)) → GainedTries j holder 1000 xs ys → length xs < length ys
 longer j holder xs ys h = omega (arith, ap length h.gained, length-append xs h.tries, h.many)
@@ -54,10 +66,16 @@ module _ {T : Type 0} where
   pub record Trying (before : View T) (j holder count : ℕ) (after : View T) : Type 0 where
     pub hand : after.hand ≡ Empty
     pub unchanged : Unchanged before after
+    pub takes : after.takes ≡ before.takes
+    -- who is alone loses none
+    pub alone : IsAlone before → count ≡ 0
     pub gained : GainedTries j holder count before.lost after.lost
 
   pub begins-trying : (v : View T) (j : ℕ) → v.hand ≡ Empty → Trying v j 0 0 v
-  begins-trying v j empty = record { hand = empty; unchanged = unchanged-same v; gained = no-tries j 0 v.lost }
+  begins-trying v j empty = record { hand = empty; unchanged = unchanged-same v; takes = refl; alone = λ alone. refl; gained = no-tries j 0 v.lost }
+
+  no-other : (v : View T) (w : ℕ) → IsAlone v → IsAnother w v → ⊥
+  no-other v w alone other = ⊎_elim (λ below. omega (arith, alone.0, below)) (λ above. omega (arith, alone.1, other.0, above)) other.1
 
   pub tries-again : (v : View T) (j holder count : ℕ) (w u : View T) (other : ℕ) → Trying v j other count w → TurnMissed w j holder u
       → Trying v j holder (count + 1) u
@@ -77,6 +95,9 @@ module _ {T : Type 0} where
               marks = ap (λ x. x.marks) e;
               seen = ap (λ x. x.seen) e;
             });
+        takes = ap (λ x. x.takes) e ∙ so_far.takes;
+        alone =
+            λ alone. absurd (no-other w holder (so_far.unchanged.first ∙ alone.0, so_far.unchanged.end ∙ alone.1 ∙ sym so_far.unchanged.all) missed.another);
         gained = one-more-try j other holder count v.lost w.lost u.lost so_far.gained (ap (λ x. x.lost) e);
       }
 
@@ -86,10 +107,20 @@ module _ {T : Type 0} where
   part-by readable true world goal j t ps at w e = subst (λ qs. At qs j (readable t)) (sym e) (at-map readable goal j t at)
   part-by readable false world goal j t ps at w e = subst (λ qs. At qs j (readable t)) (sym w) (at-map readable world j t at)
 
+  pub lost-still : (u v w : View T) → Loses u v → w.lost ≡ v.lost → Loses u w
+  lost-still u v w h e = record { more = omega (arith, h.more, ap length e); alone = λ alone. e ∙ h.alone alone }
+
+  loses-tries : (v : View T) (j holder count : ℕ) (w : View T) → Trying v j holder count w → Loses v w
+  loses-tries v j holder count w h =
+      record {
+        more = not-shorter j holder count v.lost w.lost h.gained;
+        alone = λ alone. gained-nothing j holder count v.lost w.lost (h.alone alone) h.gained;
+      }
+
 module _ {X T Q : Type 0} where
   -- a turn that was had after these tries
-  pub gets : (v : View T) (j other count : ℕ) (w u : View T) (turn : Turn X T Q) → Trying v j other count w → TurnHad w j turn u → TurnGot v j turn u
-  gets v j other count w u turn so_far had =
+  pub gets : (v : View T) (j other count : ℕ) (w u : View T) (turn : Turn X T Q) → count < 1000 → Trying v j other count w → TurnHad w j turn u → TurnGot v j turn u
+  gets v j other count w u turn few so_far had =
       let e = had.view in
       let same = so_far.unchanged in
       record {
@@ -107,7 +138,9 @@ module _ {X T Q : Type 0} where
               marks = ap (λ x. x.marks) e;
               seen = ap (λ x. x.seen) e;
             });
-        lost = omega (arith, not-shorter j other count v.lost w.lost so_far.gained, ap (λ x. length x.lost) e);
+        takes = ap (λ x. x.takes) e ∙ ap (λ n. w.takes ++ (n, j) ∷ []) same.first ∙ ap (λ ts. ts ++ (v.first, j) ∷ []) so_far.takes;
+        loses = lost-still v w u (loses-tries v j other count w so_far) (ap (λ x. x.lost) e);
+        few = omega (arith, few, ap (λ x. length x.lost) e, ap length so_far.gained.gained, length-append v.lost so_far.gained.tries, so_far.gained.many);
         own_claim =
             λ claimed unmarked. had.own_claim
             (subst (λ n. 0 < pairs n j w.claims) (sym same.first) (subst (λ cs. 0 < pairs v.first j cs) (sym same.claims) claimed))
@@ -152,9 +185,9 @@ module _ {X T Q : Type 0} where
 
 module _ {X T Q : Type 0} {g : Ghosts X T Q} where
   -- a turn was had and given back
-  pub gives-back : (a b c : Seat X T Q g) → seat_name b ≡ seat_name a → Unchanged (view a) (view b) → seat_name c ≡ seat_name b
+  pub gives-back : (a b c : Seat X T Q g) → seat_name b ≡ seat_name a → Unchanged (view a) (view b) → Loses (view a) (view b) → seat_name c ≡ seat_name b
       → view c ≡ with_no_hand (view b) → Looked a c
-  gives-back a b c name same again e =
+  gives-back a b c name same loses again e =
       record {
         table = again ∙ name;
         hand = ap (λ x. x.hand) e;
@@ -170,12 +203,13 @@ module _ {X T Q : Type 0} {g : Ghosts X T Q} where
               marks = ap (λ x. x.marks) e;
               seen = ap (λ x. x.seen) e;
             });
+        loses = lost-still (view a) (view b) (view c) loses (ap (λ x. x.lost) e);
       }
 
-  pub lost-kept : (a b c : Seat X T Q g) → length (view a).lost ≤ length (view b).lost → view c ≡ with_no_hand (view b)
-      → length (view a).lost ≤ length (view c).lost
-  lost-kept a b c h e = omega (arith, h, ap (λ x. length x.lost) e)
+  -- and it was taken once
+  pub took-one : (a b c : Seat X T Q g) (j : ℕ) → TookOne j (view a) (view b) → view c ≡ with_no_hand (view b) → TookOne j (view a) (view c)
+  took-one a b c j h e = ap (λ x. x.takes) e ∙ h
 
   -- what tries in vain leave
   pub tried-looked : (a b : Seat X T Q g) (j holder count : ℕ) → seat_name b ≡ seat_name a → Trying (view a) j holder count (view b) → Looked a b
-  tried-looked a b j holder count name trying = record { table = name; hand = trying.hand; unchanged = trying.unchanged }
+  tried-looked a b j holder count name trying = record { table = name; hand = trying.hand; unchanged = trying.unchanged; loses = loses-tries (view a) j holder count (view b) trying }

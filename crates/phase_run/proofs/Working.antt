@@ -1,6 +1,7 @@
 -- what a worker's steps leave of its seat
-use Rattle.std.proofs.Common.{◌≡◌, ℕ, ◌+◌, ◌<◌, ◌≤◌, List, [], ◌∷◌, ◌++◌, length, refl, ap, sym, ◌∙◌, subst, inl, inr, ⊎_elim, arith}
+use Rattle.std.proofs.Common.{◌≡◌, Bool, true, false, ◌&&◌, ◌==◌, ℕ, ◌+◌, ◌<◌, ◌≤◌, List, [], ◌∷◌, ◌++◌, length, length-append, refl, ap, sym, ◌∙◌, subst, ◌⊎◌, inl, inr, ⊎_elim, arith}
 use Rattle.std.proofs.lemmas.Bool.{cases_lt}
+use Rattle.std.proofs.lemmas.List.{append-nil}
 use Rattle.tile_machine.specs.At.{At}
 use Rattle.tile_machine.specs.declared.phase.Phase.{Ghosts}
 use Rattle.tile_table.specs.declared.view.View.{View}
@@ -8,12 +9,14 @@ use Rattle.tile_table.specs.declared.view.Hand.TheVariants.{Empty}
 use Rattle.tile_table.specs.declared.seat.Seat.{Seat}
 use Rattle.tile_table.specs.declared.seat.Closed.{Closed}
 use Rattle.tile_table.specs.declared.table.TileTable.{TileTable}
-use Rattle.tile_table.specs.Counts.{same, times, pairs}
+use Rattle.tile_table.specs.Counts.{bit, same, times, pairs}
 use Rattle.tile_table.specs.Views.{opening_view, tiles_by, with_claim, with_seen, with_mark, with_no_hand, lower, upper, joined}
 use Rattle.tile_table.specs.Calls.{ClosedBy}
 use Rattle.tile_table.specs.Seats.{view, seat_name, IsAt}
-use Rattle.phase_run.specs.Looks.{Unchanged, Looked}
-use Rattle.phase_run.specs.Workers.{Ready, Worked, Later, Visited}
+use Rattle.phase_run.specs.declared.worker.Visit.{Visit}
+use Rattle.phase_run.specs.declared.worker.Visit.TheVariants.{Finished, PutOff, Passed}
+use Rattle.phase_run.specs.Looks.{IsAlone, Unchanged, Loses, Looked}
+use Rattle.phase_run.specs.Workers.{Ready, Worked, Visited, Ended, ClaimedNow, Visits, Accounts, GoesOver, WentOver, FinishesClaims}
 use Rattle.phase_run.specs.Rest.{TilesOf}
 
 pairs-more : (a b : ℕ) (xs ys : List (ℕ × ℕ)) → pairs a b xs ≤ pairs a b (xs ++ ys)
@@ -27,53 +30,110 @@ pairs-last : (a b : ℕ) (xs : List (ℕ × ℕ)) → 0 < pairs a b (xs ++ (a, b
 pairs-last a b [] = grind arith
 pairs-last a b (p ∷ xs) = omega (arith, pairs-last a b xs)
 
+times-more : (a : ℕ) (xs ys : List ℕ) → times a xs ≤ times a (xs ++ ys)
+times-more a [] ys = omega arith
+times-more a (x ∷ xs) ys = omega (arith, times-more a xs ys)
+
+times-last : (a : ℕ) (xs : List ℕ) → 0 < times a (xs ++ a ∷ [])
+times-last a [] = grind arith
+times-last a (x ∷ xs) = omega (arith, times-last a xs)
+
+-- a pair that stands in a list with one more at its end stands in the list, or is that one
+pairs-back : (a b c d : ℕ) (xs : List (ℕ × ℕ)) → 0 < pairs a b (xs ++ (c, d) ∷ []) → (0 < pairs a b xs) ⊎ (b ≡ d)
+pairs-back a b c d [] h = inr (sym (second c a d b h))
+  where
+    second : (c a d b : ℕ) → 0 < bit ((c == a) && (d == b)) + 0 → d ≡ b
+    second c a d b h = grind arith
+pairs-back a b c d (p ∷ xs) h =
+    elim ((p.0 == a) && (p.1 == b)) as (λ t. 0 < bit t + pairs a b (xs ++ (c, d) ∷ []) → (0 < bit t + pairs a b xs) ⊎ (b ≡ d)) [
+      | true ↦ λ h. inl (omega arith)
+      | false ↦ λ h. ⊎_elim (λ t. inl (omega (arith, t))) (λ e. inr e) (pairs-back a b c d xs (omega (arith, h)))
+    ] h
+
 module _ {T : Type 0} where
-  pub later-same : (v w : View T) → w.claims ≡ v.claims → w.seen ≡ v.seen → Later v w
-  later-same v w claims seen =
-      record {
-        claims = λ by i h. subst (λ xs. 0 < pairs by i xs) (sym claims) h;
-        seen = λ i by h. subst (λ xs. 0 < pairs i by xs) (sym seen) h;
-      }
+  pub claimed-still : (v w : View T) (by i : ℕ) (added : List (ℕ × ℕ)) → w.claims ≡ v.claims ++ added → 0 < pairs by i v.claims → 0 < pairs by i w.claims
+  claimed-still v w by i added e h = subst (λ xs. 0 < pairs by i xs) (sym e) (omega (arith, h, pairs-more by i v.claims added))
 
-  pub later-on : (u v w : View T) → Later u v → Later v w → Later u w
-  later-on u v w h k = record { claims = λ by i x. k.claims by i (h.claims by i x); seen = λ i by x. k.seen i by (h.seen i by x) }
+  seen-still : (v w : View T) (i by : ℕ) (added : List (ℕ × ℕ)) → w.seen ≡ v.seen ++ added → 0 < pairs i by v.seen → 0 < pairs i by w.seen
+  seen-still v w i by added e h = subst (λ xs. 0 < pairs i by xs) (sym e) (omega (arith, h, pairs-more i by v.seen added))
 
-  pub later-claim : (v w : View T) (i : ℕ) → w ≡ with_claim v i → Later v w
-  later-claim v w i e =
-      record {
-        claims = λ by j h. subst (λ xs. 0 < pairs by j xs) (sym (ap (λ x. x.claims) e)) (omega (arith, h, pairs-more by j v.claims ((v.first, i) ∷ [])));
-        seen = λ j by h. subst (λ xs. 0 < pairs j by xs) (sym (ap (λ x. x.seen) e)) h;
-      }
-
-  pub later-seen : (v w : View T) (i who : ℕ) → w ≡ with_seen v i who → Later v w
-  later-seen v w i who e =
-      record {
-        claims = λ by j h. subst (λ xs. 0 < pairs by j xs) (sym (ap (λ x. x.claims) e)) h;
-        seen = λ j by h. subst (λ xs. 0 < pairs j by xs) (sym (ap (λ x. x.seen) e)) (omega (arith, h, pairs-more j by v.seen ((i, who) ∷ [])));
-      }
+  -- what was visited stays so where the lists grow
+  pub visited-still : (v w : View T) (i : ℕ) (claims seen : List (ℕ × ℕ)) → w.claims ≡ v.claims ++ claims → w.seen ≡ v.seen ++ seen
+      → Visited v i → Visited w i
+  visited-still v w i claims seen c s h =
+      ⊎_elim (λ t. inl (t.0, claimed-still v w t.0 i claims c t.1)) (λ t. inr (t.0, seen-still v w i t.0 seen s t.1)) h
 
   -- the claim that was just made
   pub claimed-now : (v w : View T) (i : ℕ) → w ≡ with_claim v i → 0 < pairs w.first i w.claims
   claimed-now v w i e =
       subst (λ x. 0 < pairs x.first i x.claims) (sym e) (pairs-last v.first i v.claims)
 
-  pub unmarked-now : (v w : View T) (i : ℕ) → w ≡ with_claim v i → times i v.marks ≡ 0 → times i w.marks ≡ 0
-  unmarked-now v w i e unmarked = ap (λ x. times i x.marks) e ∙ unmarked
+  claim-visited : (v w : View T) (i k : ℕ) → ClaimedNow v i w → (i ≡ k) ⊎ Visited v k → Visited w k
+  claim-visited v w i k now h =
+      ⊎_elim
+      (λ e. inl (v.first, subst (λ xs. 0 < pairs v.first k xs) (sym now.0) (subst (λ n. 0 < pairs v.first k (v.claims ++ (v.first, n) ∷ [])) (sym e) (pairs-last v.first k v.claims))))
+      (λ before. visited-still v w k ((v.first, i) ∷ []) [] now.0 (now.1 ∙ sym (append-nil v.seen)) before)
+      h
 
-  pub visits-claimed : (v w : View T) (i : ℕ) → 0 < pairs v.first i v.claims → Later v w → Visited w i
-  visits-claimed v w i claimed later = inl (v.first, later.claims v.first i claimed)
+  -- a visit adds its place to those that were visited
+  visit-adds : (visit : Visit) (v w : View T) (i k : ℕ) → Visits visit v i w → (i ≡ k) ⊎ Visited v k → Visited w k
+  visit-adds Finished v w i k here h = claim-visited v w i k here.0 h
+  visit-adds PutOff v w i k here h = claim-visited v w i k here.0 h
+  visit-adds Passed v w i k here h =
+      let by = here.2 in
+      ⊎_elim
+      (λ e. inr (by.0, subst (λ xs. 0 < pairs k by.0 xs) (sym by.1) (subst (λ n. 0 < pairs k by.0 (v.seen ++ (n, by.0) ∷ [])) (sym e) (pairs-last k by.0 v.seen))))
+      (λ before. visited-still v w k [] ((i, by.0) ∷ []) (here.0 ∙ sym (append-nil v.claims)) by.1 before)
+      h
 
-  pub visits-seen : (v w : View T) (i who : ℕ) → w ≡ with_seen v i who → Visited w i
-  visits-seen v w i who e = inr (who, subst (λ x. 0 < pairs i who x.seen) (sym e) (pairs-last i who v.seen))
+  -- a visit's claim is followed by a mark or by a lost try
+  visit-accounts : (visit : Visit) (v w : View T) (i : ℕ) → Visits visit v i w → Loses v w → Accounts v w
+  visit-accounts Finished v w i here loses =
+      omega (arith, ap length here.0.0, length-append v.claims ((v.first, i) ∷ []), ap length here.1, length-append v.marks (i ∷ []), loses.more)
+  visit-accounts PutOff v w i here loses =
+      omega (arith, ap length here.0.0, length-append v.claims ((v.first, i) ∷ []), ap length here.1.0, here.1.1)
+  visit-accounts Passed v w i here loses = omega (arith, ap length here.0, ap length here.1, loses.more)
 
-  visited-later : (v w : View T) (i : ℕ) → Later v w → Visited v i → Visited w i
-  visited-later v w i later seen =
-      ⊎_elim (λ t. inl (t.0, later.claims t.0 i t.1)) (λ t. inr (t.0, later.seen i t.0 t.1)) seen
+  finished-here : (v w : View T) (i : ℕ) → w.claims ≡ v.claims ++ (v.first, i) ∷ [] → w.marks ≡ v.marks ++ i ∷ [] → FinishesClaims v → FinishesClaims w
+  finished-here v w i c m before by k h =
+      subst (λ ms. 0 < times k ms) (sym m)
+      (⊎_elim
+      (λ old. omega (arith, before by k old, times-more k v.marks (i ∷ [])))
+      (λ e. subst (λ n. 0 < times k (v.marks ++ n ∷ [])) e (times-last k v.marks))
+      (pairs-back by k v.first i v.claims (subst (λ cs. 0 < pairs by k cs) c h)))
+
+  -- where no try is lost, each claim is followed by a mark
+  finishes-more : (visit : Visit) (v w : View T) (i : ℕ) → Visits visit v i w → w.lost ≡ v.lost → FinishesClaims v → FinishesClaims w
+  finishes-more Finished v w i here none before = finished-here v w i here.0.0 here.1 before
+  finishes-more PutOff v w i here none before = absurd (omega (arith, ap length none, here.1.1))
+  finishes-more Passed v w i here none before =
+      λ by k h. subst (λ ms. 0 < times k ms) (sym here.1) (before by k (subst (λ cs. 0 < pairs by k cs) here.0 h))
+
+  pub goes-nowhere : (from : ℕ) (v : View T) → GoesOver from from v v
+  goes-nowhere from v =
+      record { visited = λ i above below. absurd (omega (arith, above, below)); still = λ i h. h; accounts = omega arith; alone = λ alone h. h }
 
   -- one place more
-  pub visits-more : (v w : View T) (i : ℕ) → Later v w → Visited w i → ((k : ℕ) → k < i → Visited v k) → (k : ℕ) → k < i + 1 → Visited w k
-  visits-more v w i later here before k h =
-      ⊎_elim (λ less. visited-later v w k later (before k less)) (λ not_less. let e : i ≡ k = omega (arith, h, not_less) in subst (λ n. Visited w n) e here) (cases_lt k i)
+  pub goes-on : (visit : Visit) (from i : ℕ) (u v w : View T) → GoesOver from i u v → Visits visit v i w → Loses v w → (IsAlone u → IsAlone v)
+      → GoesOver from (i + 1) u w
+  goes-on visit from i u v w so_far here loses alone =
+      let one : Accounts v w = visit-accounts visit v w i here loses in
+      record {
+        visited =
+            λ k above below. visit-adds visit v w i k here
+            (⊎_elim (λ less. inr (so_far.visited k above less)) (λ not_less. inl (omega (arith, below, not_less))) (cases_lt k i));
+        still = λ k h. visit-adds visit v w i k here (inr (so_far.still k h));
+        accounts = omega (arith, so_far.accounts, one);
+        alone = λ is h. finishes-more visit v w i here (loses.alone (alone is)) (so_far.alone is h);
+      }
+
+  -- from the start to the end, and from the first place to the start
+  pub goes-round : (start : ℕ) (u v w : View T) → GoesOver start (length u.world) u v → GoesOver 0 start v w → WentOver u w
+  goes-round start u v w h k =
+      record {
+        visited = λ i inside. ⊎_elim (λ less. k.visited i (omega arith) less) (λ not_less. k.still i (h.visited i (omega (arith, not_less)) inside)) (cases_lt i start);
+        accounts = omega (arith, h.accounts, k.accounts);
+      }
 
 module _ {X T Q : Type 0} {g : Ghosts X T Q} where
   pub worked-same : (a : Seat X T Q g) → (view a).hand ≡ Empty → Worked a a
@@ -91,17 +151,18 @@ module _ {X T Q : Type 0} {g : Ghosts X T Q} where
         all = k.all ∙ h.all;
       }
 
+  pub alone-worked : (a b : Seat X T Q g) → Worked a b → IsAlone (view a) → IsAlone (view b)
+  alone-worked a b h alone = (h.first ∙ alone.0, h.end ∙ alone.1 ∙ sym h.all)
+
   pub looked-worked : (a b : Seat X T Q g) → Looked a b → Worked a b
   looked-worked a b h =
       let same = h.unchanged in
       record { table = h.table; hand = h.hand; world = same.world; goal = same.goal; first = same.first; end = same.end; all = same.all }
 
-  pub looked-later : (a b : Seat X T Q g) → Looked a b → Later (view a) (view b)
-  looked-later a b h = later-same (view a) (view b) h.unchanged.claims h.unchanged.seen
-
   -- a finished tile was put under a turn
   pub puts : (a b c : Seat X T Q g) (i : ℕ) → seat_name b ≡ seat_name a → Unchanged (view a) (view b) → seat_name c ≡ seat_name b
-      → view c ≡ with_no_hand (with_mark (view b) i) → Worked a c × Later (view a) (view c)
+      → view c ≡ with_no_hand (with_mark (view b) i)
+      → Worked a c × ((view c).claims ≡ (view a).claims) × ((view c).seen ≡ (view a).seen) × Ended true (view a) i (view c) × ((view c).lost ≡ (view b).lost)
   puts a b c i name kept again e = (
     record {
       table = again ∙ name;
@@ -112,38 +173,37 @@ module _ {X T Q : Type 0} {g : Ghosts X T Q} where
       end = ap (λ x. x.end) e ∙ kept.end;
       all = ap (λ x. x.all) e ∙ kept.all;
     },
-    later-same (view a) (view c) (ap (λ x. x.claims) e ∙ kept.claims) (ap (λ x. x.seen) e ∙ kept.seen),
+    ap (λ x. x.claims) e ∙ kept.claims,
+    ap (λ x. x.seen) e ∙ kept.seen,
+    ap (λ x. x.marks) e ∙ ap (λ ms. ms ++ i ∷ []) kept.marks,
+    ap (λ x. x.lost) e,
   )
 
   pub claim-worked : (a b : Seat X T Q g) (i : ℕ) → (view a).hand ≡ Empty → seat_name b ≡ seat_name a → view b ≡ with_claim (view a) i
-      → Worked a b × Later (view a) (view b)
-  claim-worked a b i empty name e = (
-    record {
-      table = name;
-      hand = ap (λ x. x.hand) e ∙ empty;
-      world = ap (λ x. x.world) e;
-      goal = ap (λ x. x.goal) e;
-      first = ap (λ x. x.first) e;
-      end = ap (λ x. x.end) e;
-      all = ap (λ x. x.all) e;
-    },
-    later-claim (view a) (view b) i e,
-  )
+      → Worked a b
+  claim-worked a b i empty name e =
+      record {
+        table = name;
+        hand = ap (λ x. x.hand) e ∙ empty;
+        world = ap (λ x. x.world) e;
+        goal = ap (λ x. x.goal) e;
+        first = ap (λ x. x.first) e;
+        end = ap (λ x. x.end) e;
+        all = ap (λ x. x.all) e;
+      }
 
   pub seen-worked : (a b : Seat X T Q g) (i who : ℕ) → (view a).hand ≡ Empty → seat_name b ≡ seat_name a → view b ≡ with_seen (view a) i who
-      → Worked a b × Later (view a) (view b)
-  seen-worked a b i who empty name e = (
-    record {
-      table = name;
-      hand = ap (λ x. x.hand) e ∙ empty;
-      world = ap (λ x. x.world) e;
-      goal = ap (λ x. x.goal) e;
-      first = ap (λ x. x.first) e;
-      end = ap (λ x. x.end) e;
-      all = ap (λ x. x.all) e;
-    },
-    later-seen (view a) (view b) i who e,
-  )
+      → Worked a b
+  seen-worked a b i who empty name e =
+      record {
+        table = name;
+        hand = ap (λ x. x.hand) e ∙ empty;
+        world = ap (λ x. x.world) e;
+        goal = ap (λ x. x.goal) e;
+        first = ap (λ x. x.first) e;
+        end = ap (λ x. x.end) e;
+        all = ap (λ x. x.all) e;
+      }
 
   module _ (table : TileTable X T Q g) (fits : List T → Type 0) (finished : List T → List T) where
     pub ready-on : (a b : Seat X T Q g) → Ready table fits finished a → Worked a b → Ready table fits finished b
@@ -216,4 +276,33 @@ module _ {X T Q : Type 0} {g : Ghosts X T Q} where
         stands =
             λ i c at. subst (λ ts. At (tiles_by c.done ts goal) i c.tile) w
             (subst (λ ts. At (tiles_by c.done (view b).world ts) i c.tile) f (by.stands i c at));
+      }
+
+  -- what two halves did is what both did
+  pub both-went : (a low up low_then up_then both : Seat X T Q g) (cut : ℕ) → view low ≡ lower cut (view a) → view up ≡ upper cut (view a)
+      → view both ≡ joined (view low_then) (view up_then) → WentOver (view low) (view low_then) → WentOver (view up) (view up_then)
+      → WentOver (view a) (view both)
+  both-went a low up low_then up_then both cut l u e h k =
+      record {
+        visited =
+            λ i inside. visited-still (view low_then) (view both) i (view up_then).claims (view up_then).seen (ap (λ x. x.claims) e) (ap (λ x. x.seen) e)
+            (h.visited i (omega (arith, inside, ap (λ x. length x.world) l)));
+        accounts =
+            omega (
+              arith,
+              h.accounts,
+              k.accounts,
+              ap (λ x. length x.claims) l,
+              ap (λ x. length x.marks) l,
+              ap (λ x. length x.lost) l,
+              ap (λ x. length x.claims) u,
+              ap (λ x. length x.marks) u,
+              ap (λ x. length x.lost) u,
+              ap (λ x. length x.claims) e,
+              ap (λ x. length x.marks) e,
+              ap (λ x. length x.lost) e,
+              length-append (view low_then).claims (view up_then).claims,
+              length-append (view low_then).marks (view up_then).marks,
+              length-append (view low_then).lost (view up_then).lost,
+            );
       }

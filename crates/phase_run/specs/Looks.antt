@@ -1,5 +1,5 @@
 -- what a worker's look at the tiles of others shows and leaves
-use Rattle.std.specs.Prelude.{◌≡◌, ℕ, ◌<◌, ◌≤◌, Bool, true, false, List, length, map}
+use Rattle.std.specs.Prelude.{◌≡◌, ℕ, ◌+◌, ◌<◌, ◌≤◌, Bool, true, false, List, [], ◌∷◌, ◌++◌, length, map}
 use Rattle.tile_machine.specs.declared.phase.Phase.{Ghosts}
 use Rattle.tile_table.specs.declared.view.View.{View}
 use Rattle.tile_table.specs.declared.view.Hand.{Hand}
@@ -31,6 +31,19 @@ module _ {T : Type 0} where
     pub marks : after.marks ≡ before.marks
     pub seen : after.seen ≡ before.seen
 
+  -- the seat has all the numbers: there is no other worker
+  abbrev pub IsAlone : View T → Type 0
+  IsAlone v = (v.first ≡ 0) × (v.end ≡ v.all)
+
+  -- the tries that were lost: none are given up, and where there is no other worker none is lost
+  pub record Loses (before after : View T) : Type 0 where
+    pub more : length before.lost ≤ length after.lost
+    pub alone : IsAlone before → after.lost ≡ before.lost
+
+  -- the turn of place j was taken once
+  abbrev pub TookOne : ℕ → View T → View T → Type 0
+  TookOne j before after = after.takes ≡ before.takes ++ (before.first, j) ∷ []
+
   -- the turn of place j was tried as often as is allowed, each time in vain, and the last time this worker held it
   abbrev pub TriedInVain : ℕ → View T → View T → ℕ → ℕ → Type 0
   TriedInVain j before after place holder = (place ≡ j) × GainedTries place holder tries_in_a_row before.lost after.lost
@@ -40,18 +53,23 @@ module _ {T : Type 0} where
   Shown readable v parts = (parts ≡ map readable v.world) × (parts ≡ map readable v.goal)
 
 module _ {X T Q : Type 0} where
-  -- the turn of place j was had, after any number of tries in vain
+  -- the turn of place j was taken once, after fewer tries in vain than are allowed
   pub record TurnGot (before : View T) (j : ℕ) (got : Turn X T Q) (after : View T) : Type 0 where
     pub place : turn_place got ≡ j
     pub turn : HasTurn after got
     pub unchanged : Unchanged before after
-    pub lost : length before.lost ≤ length after.lost
+    pub takes : TookOne j before after
+    pub loses : Loses before after
+    -- one of the tries was not in vain
+    pub few : length after.lost < length before.lost + tries_in_a_row
     -- what the seat claimed under its own number and hasn't marked, nobody else marked
     pub own_claim : 0 < pairs before.first j before.claims → times j before.marks ≡ 0 → turn_marked got ≡ false
 
 module _ {X T Q : Type 0} {g : Ghosts X T Q} where
-  -- after a look at a tile the seat is at its table, holds no turn, and has the same lists of tiles, range, claims and marks
+  -- after a look at a tile the seat is at its table, holds no turn, and has the same lists of tiles, range, claims and marks.
+  -- Its lost tries may be more
   pub record Looked (before after : Seat X T Q g) : Type 0 where
     pub table : seat_name after ≡ seat_name before
     pub hand : (view after).hand ≡ Empty
     pub unchanged : Unchanged (view before) (view after)
+    pub loses : Loses (view before) (view after)

@@ -17,3 +17,9 @@ abbrev pub IfLateAt : {A : Type 0} → Result A PartFault → (ℕ → ℕ → T
 IfLateAt (Ok a) P = Unit {0}
 IfLateAt (Err OutOfMemory) P = Unit {0}
 IfLateAt (Err (Late place holder)) P = P place holder
+
+-- P where a turn was had, whether there was memory for what it was taken for or not; Q, if the answer is Late
+abbrev pub HadOrLate : {A : Type 0} → Result A PartFault → Type 0 → Type 0 → Type 0
+HadOrLate (Ok a) P Q = P
+HadOrLate (Err OutOfMemory) P Q = P
+HadOrLate (Err (Late place holder)) P Q = Q

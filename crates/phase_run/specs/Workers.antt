@@ -1,12 +1,15 @@
 -- what a worker needs, and what it leaves
-use Rattle.std.specs.Prelude.{◌≡◌, ℕ, ◌<◌, List, ◌⊎◌}
+use Rattle.std.specs.Prelude.{◌≡◌, ℕ, ◌+◌, ◌<◌, ◌≤◌, Bool, true, false, List, [], ◌∷◌, ◌++◌, length, ◌⊎◌}
 use Rattle.tile_machine.specs.declared.phase.Phase.{Ghosts}
 use Rattle.tile_table.specs.declared.view.View.{View}
 use Rattle.tile_table.specs.declared.view.Hand.TheVariants.{Empty}
 use Rattle.tile_table.specs.declared.seat.Seat.{Seat}
 use Rattle.tile_table.specs.declared.table.TileTable.{TileTable}
-use Rattle.tile_table.specs.Counts.{pairs}
+use Rattle.tile_table.specs.Counts.{times, pairs}
 use Rattle.tile_table.specs.Seats.{view, seat_name, IsAt}
+use Rattle.phase_run.specs.Looks.{IsAlone}
+use Rattle.phase_run.specs.declared.worker.Visit.{Visit}
+use Rattle.phase_run.specs.declared.worker.Visit.TheVariants.{Finished, PutOff, Passed}
 
 module _ {X T Q : Type 0} {g : Ghosts X T Q} where
   -- a seat of this table that holds no turn, for a phase that fits its world and whose finished tiles are its goal
@@ -27,11 +30,45 @@ module _ {X T Q : Type 0} {g : Ghosts X T Q} where
     pub all : (view after).all ≡ (view before).all
 
 module _ {T : Type 0} where
-  -- nothing is lost of the claims, and of those of others that were met
-  pub record Later (before after : View T) : Type 0 where
-    pub claims : (by i : ℕ) → 0 < pairs by i before.claims → 0 < pairs by i after.claims
-    pub seen : (i by : ℕ) → 0 < pairs i by before.seen → 0 < pairs i by after.seen
-
   -- the seat has the claim of the place, or met another's
   abbrev pub Visited : View T → ℕ → Type 0
   Visited v i = ((by : ℕ) × (0 < pairs by i v.claims)) ⊎ ((by : ℕ) × (0 < pairs i by v.seen))
+
+  -- what became of a tile that the seat had claimed: it was finished, or it was put off since tries were lost
+  abbrev pub Ended : Bool → View T → ℕ → View T → Type 0
+  Ended true before i after = after.marks ≡ before.marks ++ i ∷ []
+  Ended false before i after = (after.marks ≡ before.marks) × (length before.lost < length after.lost)
+
+  -- the seat has one claim more, that of the place
+  abbrev pub ClaimedNow : View T → ℕ → View T → Type 0
+  ClaimedNow before i after = (after.claims ≡ before.claims ++ (before.first, i) ∷ []) × (after.seen ≡ before.seen)
+
+  -- what a worker did at a place
+  abbrev pub Visits : Visit → View T → ℕ → View T → Type 0
+  Visits Finished before i after = ClaimedNow before i after × Ended true before i after
+  Visits PutOff before i after = ClaimedNow before i after × Ended false before i after
+  Visits Passed before i after =
+      (after.claims ≡ before.claims) × (after.marks ≡ before.marks) × ((by : ℕ) × (after.seen ≡ before.seen ++ (i, by) ∷ []))
+
+  -- there are at least as many new marks and lost tries as new claims: a tile that was claimed and isn't finished cost a lost try
+  abbrev pub Accounts : View T → View T → Type 0
+  Accounts before after =
+      length after.claims + length before.marks + length before.lost ≤ length before.claims + length after.marks + length after.lost
+
+  -- each tile that was claimed is finished
+  abbrev pub FinishesClaims : View T → Type 0
+  FinishesClaims v = (by i : ℕ) → 0 < pairs by i v.claims → 0 < times i v.marks
+
+  -- a worker that had memory enough went over these places
+  pub record GoesOver (from to : ℕ) (before after : View T) : Type 0 where
+    pub visited : (i : ℕ) → from ≤ i → i < to → Visited after i
+    -- what was visited before stays so
+    pub still : (i : ℕ) → Visited before i → Visited after i
+    pub accounts : Accounts before after
+    -- who is alone puts nothing off
+    pub alone : IsAlone before → FinishesClaims before → FinishesClaims after
+
+  -- a worker, or several together, that had memory enough went over all places
+  pub record WentOver (before after : View T) : Type 0 where
+    pub visited : (i : ℕ) → i < length before.world → Visited after i
+    pub accounts : Accounts before after

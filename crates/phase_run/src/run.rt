@@ -42,9 +42,12 @@ where
         return Ok(tiles);
     }
     let room = Vec::with_capacity(alloc, tiles.len())?;
+    let places = tiles.len() as u64;
     let world = Snapshot::of(&tiles);
     let (table, seat) = TileTable::new(alloc, phase, tiles, workers)?;
-    let (seat, enough) = run_seats(rt, alloc, phase, number, &table, seat, workers, gate);
+    let (seat, enough) = run_seats(
+        rt, alloc, phase, number, &table, seat, workers, 0, places, gate,
+    );
     if !enough {
         return Err(AllocError);
     }

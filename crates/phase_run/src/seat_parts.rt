@@ -1,13 +1,13 @@
 //! The readable parts of a table's tiles, as the worker of a seat reads them.
 
-ghost use Rattle.std.specs.Prelude.{◌≡◌, ◌<◌, ◌≤◌, List, length, map, true, IfOk, refl};
+ghost use Rattle.std.specs.Prelude.{◌≡◌, ◌+◌, ◌<◌, ◌≤◌, List, length, map, true, IfOk, refl};
 ghost use Rattle.std.proofs.Common.{◌∙◌, ap};
 ghost use Rattle.tile_machine.specs.At.{At};
 ghost use Rattle.tile_machine.specs.Late.{IfLate};
 ghost use Rattle.tile_table.specs.declared.view.Hand.{Hand};
 ghost use Rattle.tile_table.specs.Seats.{view, IsAt};
-ghost use Rattle.phase_run.specs.Looks.{is_empty, Looked, TriedInVain, Shown};
-ghost use Rattle.phase_run.specs.Tries.{IfLateAt};
+ghost use Rattle.phase_run.specs.Looks.{is_empty, Looked, TookOne, TriedInVain, tries_in_a_row, Shown};
+ghost use Rattle.phase_run.specs.Tries.{IfLateAt, HadOrLate};
 
 use crate::tries::turn_of;
 use std::alloc::Global;
@@ -29,7 +29,8 @@ fn part_of<P: Phase>(
     requires hand { (view seat.old).hand ≡ Hand.Empty }
     requires place { j < length (view seat.old).world }
     ensures looked { Looked seat.old seat.new }
-    ensures lost { length (view seat.old).lost ≤ length (view seat.new).lost }
+    ensures takes { HadOrLate result (TookOne j (view seat.old) (view seat.new)) ((view seat.new).takes ≡ (view seat.old).takes) }
+    ensures few { length (view seat.new).lost ≤ length (view seat.old).lost + tries_in_a_row }
     ensures part { IfOk result (λ p. (ps : List P.Part) → Shown (P.readable phase.now) (view seat.old) ps → At ps j p) }
     ensures tries { IfLateAt result (TriedInVain j (view seat.old) (view seat.new)) }
 {
@@ -107,6 +108,8 @@ impl<'a, P: Phase> Parts<P::Part> for SeatParts<'a, P> {
         ensures part { IfOk result (λ p. (ps : List P.Part) → Shown (P.readable self.old.phase.now) (view self.old.seat.now) ps → At ps j p) }
         ensures late { IfLate result (length (view self.old.seat.now).lost < length (view self.new.seat.now).lost) }
         ensures tries { IfLateAt result (TriedInVain j (view self.old.seat.now) (view self.new.seat.now)) }
+        ensures takes { HadOrLate result (TookOne j (view self.old.seat.now) (view self.new.seat.now)) ((view self.new.seat.now).takes ≡ (view self.old.seat.now).takes) }
+        ensures few { length (view self.new.seat.now).lost ≤ length (view self.old.seat.now).lost + tries_in_a_row }
     {
         part_of(alloc, self.phase, self.table, &mut *self.seat, j)
     }

@@ -1,9 +1,9 @@
 //! What no clause says: that the calls succeed, that workers run at once, and what a worker meets at a held turn.
 
-ghost use Rattle.std.specs.Prelude.{◌≡◌, ◌≤◌, length, IfOk};
+ghost use Rattle.std.specs.Prelude.{◌≡◌, ◌<◌, ◌≤◌, ◌^◌, length, IfOk};
 
 use crate::{SeatParts, run_phase};
-use gates::HoldsFirst;
+use gates::{Counts, HoldsFirst};
 use host_port::{Gate, NoGate};
 use plain_phases::{Failing, Meeting};
 use std::alloc::{AllocError, Global};
@@ -31,40 +31,51 @@ fn summands(alloc: Global, values: &[u32]) -> Result<Vec<Summand>, AllocError>
         .collect(alloc)
 }
 
-/// The totals of 1, 2 and 3, by this many workers.
+/// The totals of these values, by this many workers.
 fn totals<R: Threads + Sync, G: Gate>(
     rt: &R,
     alloc: Global,
+    values: &[u32],
     workers: u64,
     gate: &G,
 ) -> Result<Vec<u64>, AllocError>
     requires some { 1 ≤ workers }
     requires few { workers ≤ 64 }
+    requires values { length values.now < 2 ^ 32 }
 {
-    let tiles = summands(alloc, &[1, 2, 3])?;
+    let tiles = summands(alloc, values)?;
     let done = run_phase(rt, alloc, &Sums, 1, tiles, workers, gate)?;
     done.iter().map(|one| one.total).collect(alloc)
 }
 
 #[test]
 fn any_number_of_workers(rt: HostRuntime) -> Result<(), Fail> {
-    let alloc = rt.alloc();
-    assert_eq!(rt;
-        totals(&rt, alloc, 1, &NoGate)?.as_slice(),
-        [6, 6, 6].as_slice()
-    );
-    assert_eq!(rt;
-        totals(&rt, alloc, 2, &NoGate)?.as_slice(),
-        [6, 6, 6].as_slice()
-    );
-    assert_eq!(rt;
-        totals(&rt, alloc, 7, &NoGate)?.as_slice(),
-        [6, 6, 6].as_slice()
-    );
-    assert_eq!(rt;
-        totals(&rt, alloc, 64, &NoGate)?.as_slice(),
-        [6, 6, 6].as_slice()
-    );
+    for workers in [1u64, 2, 7, 64] {
+        let sums = totals(&rt, rt.alloc(), &[1, 2, 3], workers, &NoGate)?;
+        assert_eq!(rt; sums.as_slice(), [6, 6, 6].as_slice(), "by {workers}");
+    }
+    Ok(())
+}
+
+/// Each of sixty tiles is claimed once, and none is finished twice, or without a claim. One worker alone finishes all.
+#[test]
+fn sixty_tiles(rt: HostRuntime) -> Result<(), Fail> {
+    let all = u64::MAX / 16;
+    let mut values = [1u32; 60];
+    values[59] = 41;
+    for workers in [1u64, 7, 64] {
+        let gate = Counts::new(1);
+        let sums = totals(&rt, rt.alloc(), &values, workers, &gate)?;
+        assert!(rt;
+            sums.len() == 60 && sums.iter().all(|sum| *sum == 100),
+            "by {workers}"
+        );
+        assert!(rt; gate.has_claimed(all) && !gate.was_misled(), "by {workers}");
+        assert!(rt;
+            workers > 1 || gate.finished() == all,
+            "put off by one worker"
+        );
+    }
     Ok(())
 }
 
@@ -120,31 +131,35 @@ fn a_held_tile_is_late(rt: HostRuntime) -> Result<(), Fail> {
 /// The rewriting of each of two tiles holds until that of the other has begun.
 #[test]
 fn two_tiles_at_once(rt: HostRuntime) -> Result<(), Fail> {
-    let meeting = Meeting::new();
-    let tiles = [7u64, 8].to_vec(rt.alloc())?;
-    let done = run_phase(&rt, rt.alloc(), &meeting, 2, tiles, 2, &NoGate)?;
-    assert_eq!(rt; done.as_slice(), [7, 8].as_slice());
-    assert!(rt;
-        !meeting.has_missed(),
-        "one rewriting waited for the other in vain"
-    );
+    for workers in [2u64, 4] {
+        let meeting = Meeting::new();
+        let tiles = [7u64, 8].to_vec(rt.alloc())?;
+        let done = run_phase(&rt, rt.alloc(), &meeting, 2, tiles, workers, &NoGate)?;
+        assert_eq!(rt; done.as_slice(), [7, 8].as_slice());
+        assert!(rt;
+            !meeting.has_missed(),
+            "one rewriting waited for the other in vain, by {workers}"
+        );
+    }
     Ok(())
 }
 
 /// The worker that claims first is held until another has finished a tile. The gate is told of no other phase and no other tile.
 #[test]
 fn one_worker_is_held(rt: HostRuntime) -> Result<(), Fail> {
-    let gate = HoldsFirst::new(1, 3);
-    let sums = totals(&rt, rt.alloc(), 2, &gate)?;
-    assert_eq!(rt; sums.as_slice(), [6, 6, 6].as_slice());
-    assert!(rt;
-        gate.has_held() && !gate.has_missed(),
-        "no other worker finished a tile"
-    );
-    assert!(rt;
-        !gate.was_misled(),
-        "the gate was told of another phase or tile"
-    );
+    for workers in [2u64, 4] {
+        let gate = HoldsFirst::new(1, 3);
+        let sums = totals(&rt, rt.alloc(), &[1, 2, 3], workers, &gate)?;
+        assert_eq!(rt; sums.as_slice(), [6, 6, 6].as_slice());
+        assert!(rt;
+            gate.has_held() && !gate.has_missed(),
+            "no other worker finished a tile, of {workers}"
+        );
+        assert!(rt;
+            !gate.was_misled(),
+            "the gate was told of another phase or tile"
+        );
+    }
     Ok(())
 }
 

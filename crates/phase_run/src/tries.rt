@@ -26,6 +26,7 @@ pub(crate) fn turn_of<P: Phase>(
     ensures table { seat_name seat.new ≡ seat_name seat.old }
     ensures turn { IfOk result (λ turn. TurnGot (view seat.old) j turn (view seat.new)) }
     ensures missed { IfErr result (λ busy. Looked seat.old seat.new) }
+    ensures takes { IfErr result (λ busy. (view seat.new).takes ≡ (view seat.old).takes) }
     ensures tries { IfErr result (λ busy. TriedInVain j (view seat.old) (view seat.new) j busy.holder) }
 {
     let mut holder = 0;

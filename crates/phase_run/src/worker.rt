@@ -1,12 +1,14 @@
 //! What one worker does: it goes over all places, and finishes the tiles that it can claim.
 
-ghost use Rattle.std.specs.Prelude.{◌≡◌, ℕ, ◌<◌, length, true, IfOk};
+ghost use Rattle.std.specs.Prelude.{◌≡◌, ℕ, ◌+◌, ◌<◌, ◌≤◌, length, true, IfOk, OnOk};
 ghost use Rattle.tile_machine.specs.At.{At};
+ghost use Rattle.tile_machine.specs.Late.{IfLate};
 ghost use Rattle.tile_table.specs.declared.view.Hand.{Hand};
 ghost use Rattle.tile_table.specs.Counts.{times, pairs};
 ghost use Rattle.tile_table.specs.Seats.{view, IsAt};
-ghost use Rattle.phase_run.specs.Looks.{Looked};
-ghost use Rattle.phase_run.specs.Workers.{Ready, Worked, Visited, Later};
+ghost use Rattle.phase_run.specs.Looks.{IsAlone, Loses, Looked, TookOne, tries_in_a_row};
+ghost use Rattle.phase_run.specs.Tries.{HadOrLate};
+ghost use Rattle.phase_run.specs.Workers.{Ready, Worked, Ended, Visits, GoesOver, WentOver, FinishesClaims};
 
 use crate::seat_parts::SeatParts;
 use crate::tries::turn_of;
@@ -17,6 +19,17 @@ use tile_machine::phase::Phase;
 use tile_table::answer::Claim;
 use tile_table::seat::Seat;
 use tile_table::table::TileTable;
+
+/// What a worker did at a place.
+#[derive(Clone, Copy, Debug, PartialEq, Eq)]
+pub(crate) enum Visit {
+    /// It claimed the tile, and finished it.
+    Finished,
+    /// It claimed the tile, and another worker held a turn that it needed for too long.
+    PutOff,
+    /// Another worker had claimed the tile.
+    Passed,
+}
 
 /// A copy of the world's tile at a place that the seat has claimed and not finished.
 fn tile_of<P: Phase>(
@@ -33,6 +46,9 @@ fn tile_of<P: Phase>(
     requires unmarked { times i (view seat.old).marks ≡ 0 }
     ensures looked { Looked seat.old seat.new }
     ensures tile { IfOk result (λ tile. At (view seat.old).world i tile) }
+    ensures late { IfLate result (length (view seat.old).lost < length (view seat.new).lost) }
+    ensures takes { HadOrLate result (TookOne i (view seat.old) (view seat.new)) ((view seat.new).takes ≡ (view seat.old).takes) }
+    ensures few { length (view seat.new).lost ≤ length (view seat.old).lost + tries_in_a_row }
 {
     match turn_of(table, seat, i) {
         Ok(turn) => {
@@ -64,6 +80,7 @@ fn rewritten<P: Phase>(
     requires unmarked { times i (view seat.old).marks ≡ 0 }
     ensures looked { Looked seat.old seat.new }
     ensures tile { IfOk result (λ tile. At (view seat.old).goal i tile) }
+    ensures late { IfLate result (length (view seat.old).lost < length (view seat.new).lost) }
 {
     let tile = match tile_of(alloc, phase, table, seat, i) {
         Ok(tile) => tile,
@@ -82,7 +99,11 @@ fn is_put<P: Phase>(table: &TileTable<P>, seat: &mut Seat<P>, i: u64, tile: P::T
     requires unmarked { times i (view seat.old).marks ≡ 0 }
     requires finished { At (view seat.old).goal i tile }
     ensures worked { Worked seat.old seat.new }
-    ensures lists { Later (view seat.old) (view seat.new) }
+    ensures loses { Loses (view seat.old) (view seat.new) }
+    ensures claims { (view seat.new).claims ≡ (view seat.old).claims }
+    ensures seen { (view seat.new).seen ≡ (view seat.old).seen }
+    ensures ended { Ended result (view seat.old) i (view seat.new) }
+    ensures few { length (view seat.new).lost ≤ length (view seat.old).lost + tries_in_a_row }
 {
     match turn_of(table, seat, i) {
         Ok(turn) => {
@@ -93,7 +114,7 @@ fn is_put<P: Phase>(table: &TileTable<P>, seat: &mut Seat<P>, i: u64, tile: P::T
     }
 }
 
-/// Finishes the tile of a place that the seat has just claimed, or puts it off.
+/// Finishes the tile of a place that the seat has claimed, or puts it off. The answer is whether it is finished.
 fn finish_claimed<P: Phase, G: Gate>(
     alloc: Global,
     phase: &P,
@@ -102,13 +123,16 @@ fn finish_claimed<P: Phase, G: Gate>(
     seat: &mut Seat<P>,
     i: u64,
     gate: &G,
-) -> Result<(), AllocError>
+) -> Result<bool, AllocError>
     requires ready { Ready table.now (P.fits phase.now) (P.finished phase.now) seat.old }
     requires place { i < length (view seat.old).world }
     requires claimed { 0 < pairs (view seat.old).first i (view seat.old).claims }
     requires unmarked { times i (view seat.old).marks ≡ 0 }
     ensures worked { Worked seat.old seat.new }
-    ensures lists { Later (view seat.old) (view seat.new) }
+    ensures loses { Loses (view seat.old) (view seat.new) }
+    ensures claims { (view seat.new).claims ≡ (view seat.old).claims }
+    ensures seen { (view seat.new).seen ≡ (view seat.old).seen }
+    ensures ended { IfOk result (λ is_done. Ended is_done (view seat.old) i (view seat.new)) }
 {
     let tile = match rewritten(alloc, phase, table, seat, i) {
         Ok(tile) => tile,
@@ -117,19 +141,20 @@ fn finish_claimed<P: Phase, G: Gate>(
                 place: _,
                 holder: _,
             },
-        ) => return Ok(()),
+        ) => return Ok(false),
         Err(PartFault::OutOfMemory) => return Err(AllocError),
     };
-    if is_put(table, seat, i, tile) {
-        gate.at(
-            seat.worker(),
-            Moment::Finished {
-                phase: number,
-                tile: i,
-            },
-        );
+    if !is_put(table, seat, i, tile) {
+        return Ok(false);
     }
-    Ok(())
+    gate.at(
+        seat.worker(),
+        Moment::Finished {
+            phase: number,
+            tile: i,
+        },
+    );
+    Ok(true)
 }
 
 /// Claims one place, and finishes its tile if the claim is the seat's own.
@@ -141,15 +166,15 @@ fn one_place<P: Phase, G: Gate>(
     seat: &mut Seat<P>,
     i: u64,
     gate: &G,
-) -> Result<(), AllocError>
+) -> Result<Visit, AllocError>
     requires ready { Ready table.now (P.fits phase.now) (P.finished phase.now) seat.old }
     requires place { i < length (view seat.old).world }
     ensures worked { Worked seat.old seat.new }
-    ensures lists { Later (view seat.old) (view seat.new) }
-    ensures visited { Visited (view seat.new) i }
+    ensures loses { Loses (view seat.old) (view seat.new) }
+    ensures visits { IfOk result (λ visit. Visits visit (view seat.old) i (view seat.new)) }
 {
     match table.claim(seat, i) {
-        Claim::Taken { by: _ } => Ok(()),
+        Claim::Taken { by: _ } => Ok(Visit::Passed),
         Claim::Mine => {
             gate.at(
                 seat.worker(),
@@ -158,30 +183,66 @@ fn one_place<P: Phase, G: Gate>(
                     tile: i,
                 },
             );
-            finish_claimed(alloc, phase, number, table, seat, i, gate)
+            match finish_claimed(alloc, phase, number, table, seat, i, gate) {
+                Ok(true) => Ok(Visit::Finished),
+                Ok(false) => Ok(Visit::PutOff),
+                Err(fault) => Err(fault),
+            }
         }
     }
 }
 
-/// The whole work of one worker, which goes over all places in order. The answer is its seat, and whether there was memory
-/// enough: where there wasn't, the worker claims no more.
+/// Goes over the places from `from` up to `to`, in order. Where there isn't memory enough, the worker stops.
+fn go_over<P: Phase, G: Gate>(
+    alloc: Global,
+    phase: &P,
+    number: u8,
+    table: &TileTable<P>,
+    seat: &mut Seat<P>,
+    from: u64,
+    to: u64,
+    gate: &G,
+) -> Result<(), AllocError>
+    requires ready { Ready table.now (P.fits phase.now) (P.finished phase.now) seat.old }
+    requires order { from ≤ to }
+    requires places { to ≤ length (view seat.old).world }
+    ensures worked { Worked seat.old seat.new }
+    ensures loses { Loses (view seat.old) (view seat.new) }
+    ensures goes_over { OnOk result (GoesOver from to (view seat.old) (view seat.new)) }
+{
+    for i in from..to {
+        match one_place(alloc, phase, number, table, seat, i, gate) {
+            Ok(_) => {}
+            Err(fault) => return Err(fault),
+        }
+    }
+    Ok(())
+}
+
+/// The whole work of one worker, which goes over all places: from `start` up to the last, and then from the first. The answer is
+/// its seat, and whether there was memory enough: where there wasn't, the worker claims no more.
 pub(crate) fn work<P: Phase, G: Gate>(
     alloc: Global,
     phase: &P,
     number: u8,
     table: &TileTable<P>,
     mut seat: Seat<P>,
+    start: u64,
     gate: &G,
 ) -> (Seat<P>, bool)
     requires ready { Ready table.now (P.fits phase.now) (P.finished phase.now) seat }
     ensures worked { Worked seat result.0 }
-    ensures visited { result.1 ≡ true → (i : ℕ) → i < length (view seat).world → Visited (view result.0) i }
+    ensures went_over { result.1 ≡ true → WentOver (view seat) (view result.0) }
+    ensures alone { result.1 ≡ true → IsAlone (view seat) → FinishesClaims (view seat) → FinishesClaims (view result.0) }
 {
-    for i in 0..seat.tiles() {
-        match one_place(alloc, phase, number, table, &mut seat, i, gate) {
-            Ok(()) => {}
-            Err(_) => return (seat, false),
-        }
+    let tiles = seat.tiles();
+    let start = start.min(tiles);
+    match go_over(alloc, phase, number, table, &mut seat, start, tiles, gate) {
+        Ok(()) => {}
+        Err(_) => return (seat, false),
     }
-    (seat, true)
+    match go_over(alloc, phase, number, table, &mut seat, 0, start, gate) {
+        Ok(()) => (seat, true),
+        Err(_) => (seat, false),
+    }
 }

@@ -1,4 +1,4 @@
-//! A gate that holds a worker, but not for ever.
+//! Gates that hold a worker, but not for ever, or count what they are told.
 
 use host_port::{Gate, Moment};
 use std::sync::atomic::{AtomicBool, AtomicU64, Ordering};
@@ -82,6 +82,64 @@ impl Gate for HoldsFirst {
                 if self.held.load(Ordering::SeqCst) != worker {
                     self.finished.store(true, Ordering::SeqCst);
                 }
+            }
+        }
+    }
+}
+
+/// Remembers which of up to 64 tiles were claimed and which finished.
+#[derive(Drop)]
+pub struct Counts {
+    phase: u8,
+    claimed: AtomicU64,
+    finished: AtomicU64,
+    misled: AtomicBool,
+}
+
+impl Counts {
+    /// A gate for the phase of this number.
+    pub fn new(phase: u8) -> Counts {
+        Counts {
+            phase,
+            claimed: AtomicU64::new(0),
+            finished: AtomicU64::new(0),
+            misled: AtomicBool::new(false),
+        }
+    }
+
+    /// Whether just these tiles were claimed: the lowest bit is that of tile 0.
+    pub fn has_claimed(&self, tiles: u64) -> bool {
+        self.claimed.load(Ordering::SeqCst) == tiles
+    }
+
+    /// The tiles that were finished.
+    pub fn finished(&self) -> u64 {
+        self.finished.load(Ordering::SeqCst)
+    }
+
+    /// Whether it was told of another phase, of a tile twice, or of a tile that was finished and not claimed.
+    pub fn was_misled(&self) -> bool {
+        self.misled.load(Ordering::SeqCst)
+    }
+
+    // Another moment of a tile is told, which follows this one.
+    fn tell(&self, phase: u8, tile: u64, told: &AtomicU64, is_due: bool) {
+        let bit = 1u64.rotate_left((tile % 64) as u32);
+        let before = told.fetch_or(bit, Ordering::SeqCst);
+        if phase != self.phase || tile > 63 || before & bit != 0 || !is_due {
+            self.misled.store(true, Ordering::SeqCst);
+        }
+    }
+}
+
+impl Gate for Counts {
+    fn at(&self, _worker: u64, moment: Moment) {
+        match moment {
+            Moment::Claimed { phase, tile } => self.tell(phase, tile, &self.claimed, true),
+            Moment::Finished { phase, tile } => {
+                let bit = 1u64.rotate_left((tile % 64) as u32);
+                let is_due = self.claimed.load(Ordering::SeqCst) & bit != 0;
+                self.tell(phase, tile, &self.finished, is_due);
             }
         }
     }
