@@ -1,4 +1,4 @@
--- Names stay as they are where texts are added after theirs; lists that grew.
+-- Names stay as they are where texts are added after theirs.
 use Rattle.std.proofs.Common.{◌≡◌, ℕ, ◌-◌, ◌<◌, ◌≤◌, refl, sym, ◌∙◌, ap, subst, List, [], ◌∷◌, ◌++◌, length, map, take, drop, get_or, arith}
 use Rattle.std.specs.Prelude.{Result, Ok, Err, OnErr, All, slice_range, slice_get, Some}
 use Rattle.std.proofs.lemmas.List.{drop-append-le, take-append-le, length-drop, length-append, map-append, drop_at, take_all, get_or_append_left, append-nil, take-map, drop-map, get_or-map, length-map}
@@ -7,28 +7,8 @@ use Rattle.std.proofs.lemmas.Option.{get_or_from_slice_get, slice_get_within}
 use Rattle.osm_model.specs.Grew.{Grew}
 use Rattle.road_pieces.specs.NameRows.{text_of, AreNumbers}
 
--- a part of a list stays where more is put behind the list
-pub part_append : {X : Type 0} (xs more : List X) (from to : ℕ) → from ≤ to → to ≤ length xs → slice_range (xs ++ more) from to ≡ slice_range xs from to
-part_append xs more from to h l =
-    ap (take (to - from)) (drop-append-le from xs more (omega arith)) ∙ take-append-le (to - from) (drop from xs) more (omega (arith, length-drop from xs))
-
--- what was put behind the others is the part from there on
-pub part_end : {X : Type 0} (xs more : List X) → slice_range (xs ++ more) (length xs) (length (xs ++ more)) ≡ more
-part_end xs more =
-    ap (take (length (xs ++ more) - length xs)) (drop_at xs more (length xs) refl) ∙ take_all (length (xs ++ more) - length xs) more (omega (arith, length-append xs more))
-
-pub grew_none : {X : Type 0} (a : List X) → Grew a a
-grew_none a = record { more = []; is = sym (append-nil a) }
-
-pub grew_by : {X : Type 0} (a b more : List X) → b ≡ a ++ more → Grew a b
-grew_by a b more e = record { more = more; is = e }
-
 pub longer : {X : Type 0} (a b : List X) → Grew a b → length a ≤ length b
 longer a b g = let is : length b ≡ length (a ++ g.more) = ap length g.is in omega (arith, is, length-append a g.more)
-
-pub at_err : {T E P : Type 0} (r : Result T E) → P → OnErr r P
-at_err (Ok x) p = tt
-at_err (Err e) p = p
 
 names_append : (texts more : List (List ℕ)) (numbers : List ℕ) → AreNumbers texts numbers → map (text_of (texts ++ more)) numbers ≡ map (text_of texts) numbers
 names_append texts more [] h = refl

@@ -9,7 +9,8 @@ use Rattle.road_pieces.specs.declared.rows.Piece.{Piece}
 use Rattle.road_pieces.specs.declared.pieces.PieceHead.{PieceHead}
 use Rattle.road_pieces.specs.declared.pieces.PieceRow.{PieceRow}
 use Rattle.road_pieces.specs.PieceRows.{headed, piece_of, IsWithin, AreWithin}
-use Rattle.road_pieces.proofs.NameLemmas.{part_append, part_end, longer}
+use Rattle.osm_model.proofs.TextLemmas.{part_append, part_end}
+use Rattle.road_pieces.proofs.NameLemmas.{longer}
 
 pieces_append : (points more : List Point) (names most : List (List ℕ)) (rows : List PieceRow) → AreWithin points names rows → map (piece_of (points ++ more) (names ++ most)) rows ≡ map (piece_of points names) rows
 pieces_append points more names most [] kept = refl

@@ -57,7 +57,7 @@ impl NameRows {
     }
 
     /// Puts names after the last one. Without memory some of them may be there.
-    #[tactic(auto, using(crate::proofs::NameLemmas::grew_none, crate::proofs::NameLemmas::grew_by))]
+    #[tactic(auto, using(osm_model::proofs::TextLemmas::grew_none, osm_model::proofs::TextLemmas::grew_by))]
     pub fn extend(&mut self, names: &[TagText]) -> Result<(), AllocError>
         ensures ok { OnOk result (self.new ≡ self.old ++ names.now) }
         ensures grew { Grew self.old self.new }

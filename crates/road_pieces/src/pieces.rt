@@ -86,7 +86,7 @@ impl Pieces {
     }
 
     /// Puts a piece over the nodes at these places after the last one. Without memory the list stays as it was.
-    #[tactic(auto, using(crate::proofs::PieceLemmas::pieces_kept, crate::proofs::PieceLemmas::piece_behind, crate::proofs::NameLemmas::grew_none, crate::proofs::NameLemmas::grew_by))]
+    #[tactic(auto, using(crate::proofs::PieceLemmas::pieces_kept, crate::proofs::PieceLemmas::piece_behind, osm_model::proofs::TextLemmas::grew_none, osm_model::proofs::TextLemmas::grew_by))]
     pub(crate) fn push(
         &mut self,
         head: PieceHead,

@@ -1,5 +1,6 @@
 use Rattle.std.proofs.Common.{refl}
-use Rattle.road_pieces.proofs.NameLemmas.{at_err, names_kept}
+use Rattle.osm_model.proofs.TextLemmas.{at_err}
+use Rattle.road_pieces.proofs.NameLemmas.{names_kept}
 use Rattle.road_pieces.proofs.name_rows.NameRows.push.Goals as goal
 
 pub returns-in_err-number-clause-err : goal.returns-in_err-number-clause-err

@@ -4,7 +4,8 @@ use Rattle.fixed_geo.specs.Place.{IsPlace}
 use Rattle.road_pieces.specs.Parts.{point_at}
 use Rattle.road_pieces.specs.Rows.{course_cm}
 use Rattle.road_pieces.specs.PieceRows.{headed}
-use Rattle.road_pieces.proofs.NameLemmas.{at_err, grew_none, longer}
+use Rattle.osm_model.proofs.TextLemmas.{at_err, grew_none}
+use Rattle.road_pieces.proofs.NameLemmas.{longer}
 use Rattle.road_pieces.proofs.PartLemmas.{course_placed}
 use Rattle.road_pieces.proofs.PieceLemmas.{pieces_kept, piece_behind, within_kept, within_more, tail_is, row_is}
 use Rattle.road_pieces.proofs.pieces.Pieces.push.Goals as goal
