@@ -1,6 +1,6 @@
 //! The text of the list of plain roads.
 
-ghost use Rattle.std.specs.Prelude.{◌≡◌, ◌++◌, map, flat_map, All, IfOk, OnOk};
+ghost use Rattle.std.specs.Prelude.{◌≡◌, [], ◌++◌, map, flat_map, All, IfOk, OnOk};
 ghost use Rattle.std.specs.String.{string_bytes};
 ghost use Rattle.fixed_geo.specs.Place.{IsPlace};
 ghost use Rattle.road_pieces.specs.ListWalks.{listed};
@@ -9,7 +9,7 @@ ghost use Rattle.mjolnir_cli.specs.ListReading.{pieces_told, IsTold};
 
 use fixed_geo::Point;
 use graph_id::GraphId;
-use road_pieces::{Junction, PieceView, Pieces, Roads};
+use road_pieces::{Junction, PieceKey, PieceView, Pieces, Roads};
 use std::alloc::{AllocError, Global};
 use tile_geometry::tile_of;
 
@@ -61,8 +61,19 @@ fn push_piece(text: &mut String, piece: &PieceView<'_>) -> Result<(), AllocError
     ensures line { OnOk result (string_bytes text.new ≡ string_bytes text.old ++ piece_line piece.now) }
     ensures told { IsTold piece.now }
 {
-    let key = piece.key();
-    let (start, end, cm) = (piece.start(), piece.end(), piece.cm());
+    write_piece(text, &piece.key(), piece.start(), piece.end(), piece.cm())
+}
+
+/// Adds the line of a piece with this key, these ends and this length.
+fn write_piece(
+    text: &mut String,
+    key: &PieceKey,
+    start: i64,
+    end: i64,
+    cm: u64,
+) -> Result<(), AllocError>
+    ensures { OnOk result (string_bytes text.new ≡ string_bytes text.old ++ piece_line (record { key = key.now; start = start; end = end; shape = []; cm = cm; class = 0; forward = 0; backward = 0; names = [] })) }
+{
     writeln!(
         text,
         "p {} {} {} {} {} {}",

@@ -46,16 +46,16 @@ impl Model for Lines {
 }
 
 impl Lines {
-    /// No line yet. Takes no memory.
-    pub fn new(alloc: Global) -> Lines
-        ensures done { result.done ≡ [] }
-        ensures begun { result.begun ≡ [] }
+    /// No line yet, with room for so many places in all.
+    pub fn with_room(alloc: Global, places: usize) -> Result<Lines, AllocError>
+        ensures done { IfOk result (λ lines. lines.done ≡ []) }
+        ensures begun { IfOk result (λ lines. lines.begun ≡ []) }
     {
-        Lines {
-            places: Vec::new(alloc),
+        Ok(Lines {
+            places: Vec::with_capacity(alloc, places)?,
             heads: Vec::new(alloc),
             begun: 0,
-        }
+        })
     }
 
     /// Goes on with the begun run to a place, unless it is there already.

@@ -1,7 +1,7 @@
 //! The runs of the ways of an extract.
 
 ghost use Rattle.std.specs.Prelude.{◌≡◌, ◌<◌, ◌≤◌, ◌+◌, ◌++◌, ◌∷◌, [], length, not, count_by, IfOk, OnOk};
-ghost use Rattle.osm_model.specs.Extract.{NodesRise};
+ghost use Rattle.osm_model.specs.Extract.{NodesRise, refs_in};
 ghost use Rattle.road_pieces.specs.Runs.{has_node};
 ghost use Rattle.road_pieces.specs.Lines.{lines_from, all_lines};
 ghost use Rattle.road_pieces.specs.NodeIndex.{IsIndex};
@@ -10,7 +10,7 @@ ghost use Rattle.road_pieces.specs.Rows.{routable_ways, missing_refs};
 use crate::lines::Lines;
 use crate::node_index::NodeIndex;
 use crate::rules::is_routable;
-use osm_model::{Extract, Nodes};
+use osm_model::{Extract, Nodes, Ways};
 use std::alloc::{AllocError, Global};
 
 /// The runs of an extract, the number of its routable ways, and the number of places in their refs whose
@@ -30,7 +30,7 @@ pub(crate) fn find_lines(alloc: Global, extract: &Extract) -> Result<Survey, All
 {
     let nodes = &extract.nodes;
     let index = NodeIndex::new(alloc, nodes)?;
-    let mut lines = Lines::new(alloc);
+    let mut lines = Lines::with_room(alloc, count_refs(&extract.ways))?;
     let mut routable = 0;
     let mut missing = 0;
     for place in 0..extract.ways.len() {
@@ -45,6 +45,18 @@ pub(crate) fn find_lines(alloc: Global, extract: &Extract) -> Result<Survey, All
         ways: routable,
         missing,
     })
+}
+
+/// The number of refs of all ways.
+fn count_refs(ways: &Ways) -> usize
+    requires { refs_in ways.now ≤ 20_000_000 }
+    ensures { result ≡ refs_in ways.now }
+{
+    let mut count = 0;
+    for i in 0..ways.len() {
+        count += ways.at(i).refs().len();
+    }
+    count
 }
 
 /// Adds the runs of a way to the lines, and says how many of its refs name no node.
