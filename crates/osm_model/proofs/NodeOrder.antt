@@ -64,11 +64,12 @@ added : (old : List TagSpan) (done : List PlacedSpot) (one : PlacedSpot) (spots 
     → (nodes_from tags spans' 0 spots' ≡ map (placed_node tags old) done ++ placed_node tags old one ∷ []) × AreNodes tags spans' spots'
 added old done one spots spots' spans spans' tags made are pushed (inl none) few =
     let kept = made.kept tags are in
-    let none_here : tags_at tags old one.place ≡ [] = none_at tags old one.place none.0 in
-    (ap (λ s. nodes_from tags s 0 spots') none.1 ∙ (bare_behind (nodes_from tags spans 0 spots) tags (tags_at tags old one.place) spans spots spots' one.spot refl kept none_here pushed ∙
-    ap (λ l. l ++ placed_node tags old one ∷ []) (made.same tags are)),
-    subst (λ s. AreNodes tags s spots') (sym none.1) (spans_kept tags tags spans spots spots' kept (grew_none tags) (grew_by spots spots' (one.spot ∷ []) pushed)
-    (let is : length spots' ≡ length (spots ++ one.spot ∷ []) = ap (λ l. length l) pushed in omega (arith, is, few, length-append spots (one.spot ∷ [])))))
+    let none_here : tags_at tags old one.place ≡ [] = none_at tags old one.place none.0 in (
+      ap (λ s. nodes_from tags s 0 spots') none.1 ∙ (bare_behind (nodes_from tags spans 0 spots) tags (tags_at tags old one.place) spans spots spots' one.spot refl kept none_here pushed ∙
+          ap (λ l. l ++ placed_node tags old one ∷ []) (made.same tags are)),
+      subst (λ s. AreNodes tags s spots') (sym none.1) (spans_kept tags tags spans spots spots' kept (grew_none tags) (grew_by spots spots' (one.spot ∷ []) pushed)
+          (let is : length spots' ≡ length (spots ++ one.spot ∷ []) = ap (λ l. length l) pushed in omega (arith, is, few, length-append spots (one.spot ∷ [])))),
+    )
 added old done one spots spots' spans spans' tags made are pushed (inr found) few =
     let kept = made.kept tags are in
     let k : ℕ = found.0 in
@@ -77,12 +78,13 @@ added old done one spots spots' spans spans' tags made are pushed (inr found) fe
     let now : spans' ≡ spans ++ q ∷ [] = found.2 (record { place = 0; from = 0; to = 0 }) in
     let lies = are.inside k (record { place = 0; from = 0; to = 0 }) found.1.inside in
     let here : tags_at tags old one.place ≡ slice_range tags span.from span.to =
-    some_at tags old one.place k (record { place = 0; from = 0; to = 0 }) are.rise found.1.inside (found.1.is (record { place = 0; from = 0; to = 0 })) in
-    (ap (λ s. nodes_from tags s 0 spots') now ∙ (ap (nodes_from tags (spans ++ q ∷ []) 0) pushed ∙
-    (span_behind tags spans spots one.spot q kept refl ∙
-    (ap (λ t. nodes_from tags spans 0 spots ++ node_of t one.spot ∷ []) (sym here) ∙
-    ap (λ l. l ++ placed_node tags old one ∷ []) (made.same tags are)))),
-    subst (λ s. AreNodes tags s spots') (sym now) (subst (AreNodes tags (spans ++ q ∷ [])) (sym pushed) (span_kept tags spans spots one.spot q kept refl lies.0 lies.1 few)))
+    some_at tags old one.place k (record { place = 0; from = 0; to = 0 }) are.rise found.1.inside (found.1.is (record { place = 0; from = 0; to = 0 })) in (
+      ap (λ s. nodes_from tags s 0 spots') now ∙ (ap (nodes_from tags (spans ++ q ∷ []) 0) pushed ∙
+          (span_behind tags spans spots one.spot q kept refl ∙
+          (ap (λ t. nodes_from tags spans 0 spots ++ node_of t one.spot ∷ []) (sym here) ∙
+          ap (λ l. l ++ placed_node tags old one ∷ []) (made.same tags are)))),
+      subst (λ s. AreNodes tags s spots') (sym now) (subst (AreNodes tags (spans ++ q ∷ [])) (sym pushed) (span_kept tags spans spots one.spot q kept refl lies.0 lies.1 few)),
+    )
 
 pub one_added : (old : List TagSpan) (placed : List PlacedSpot) (i : ℕ) (d : PlacedSpot) (spots spots' : List Spot) (spans spans' : List TagSpan) → i < length placed → IsInOrder old (take i placed) spots spans → spots' ≡ spots ++ (get_or placed i d).spot ∷ [] → AddsSpan old (get_or placed i d).place (length spots) spans spans' → length spots + 1 < 2 ^ 32 → IsInOrder old (take (i + 1) placed) spots' spans'
 one_added old placed i d spots spots' spans spans' h made pushed adds few =

@@ -19,10 +19,12 @@ RiseWithin i n (span ∷ spans) = (i ≤ span.place) × (span.place < n) × Rise
 
 rise_within : (i n tags : ℕ) (spans : List TagSpan) → SpansRise spans → All (IsSpan n tags) spans → ((k : ℕ) (d : TagSpan) → k < length spans → i ≤ (get_or spans k d).place) → RiseWithin i n spans
 rise_within i n tags [] rise within from = tt
-rise_within i n tags (span ∷ spans) rise within from =
-    (from 0 span (omega arith), (All-head (IsSpan n tags) span spans within).placed,
-    rise_within (span.place + 1) n tags spans (λ a b d l m. rise (suc a) (suc b) d (omega arith) (omega arith)) (All-tail (IsSpan n tags) span spans within)
-    (λ k d l. let above : span.place < (get_or spans k d).place = rise 0 (suc k) d (omega arith) (omega arith) in omega arith))
+rise_within i n tags (span ∷ spans) rise within from = (
+  from 0 span (omega arith),
+  (All-head (IsSpan n tags) span spans within).placed,
+  rise_within (span.place + 1) n tags spans (λ a b d l m. rise (suc a) (suc b) d (omega arith) (omega arith)) (All-tail (IsSpan n tags) span spans within)
+      (λ k d l. let above : span.place < (get_or spans k d).place = rise 0 (suc k) d (omega arith) (omega arith) in omega arith),
+)
 
 -- a span before these spots is of none of them
 span_passed : (tags : List Tag) (span : TagSpan) (spans : List TagSpan) (i : ℕ) (spots : List Spot) → span.place < i → nodes_from tags (span ∷ spans) i spots ≡ nodes_from tags spans i spots
