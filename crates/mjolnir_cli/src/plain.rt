@@ -1,6 +1,6 @@
 //! The text of the list of plain roads.
 
-ghost use Rattle.std.specs.Prelude.{◌≡◌, ◌++◌, map, flat_map, All, IfOk, OnOk};
+ghost use Rattle.std.specs.Prelude.{◌≡◌, [], ◌++◌, map, flat_map, All, IfOk, OnOk};
 ghost use Rattle.std.specs.String.{string_bytes};
 ghost use Rattle.fixed_geo.specs.Place.{IsPlace};
 ghost use Rattle.road_pieces.specs.ListWalks.{listed};
@@ -9,7 +9,7 @@ ghost use Rattle.mjolnir_cli.specs.ListReading.{pieces_told, IsTold};
 
 use fixed_geo::Point;
 use graph_id::GraphId;
-use road_pieces::{Junction, Piece, Roads};
+use road_pieces::{Junction, PieceKey, PieceView, Pieces, Roads};
 use std::alloc::{AllocError, Global};
 use tile_geometry::tile_of;
 
@@ -21,7 +21,7 @@ pub(crate) fn plain_text(alloc: Global, roads: &Roads) -> Result<String, AllocEr
 {
     let mut text = String::from_str(alloc, "mjolnir-plain 1\n")?;
     push_junctions(&mut text, roads.junctions.as_slice())?;
-    push_pieces(&mut text, roads.pieces.as_slice())?;
+    push_pieces(&mut text, &roads.pieces)?;
     Ok(text)
 }
 
@@ -37,12 +37,12 @@ fn push_junctions(text: &mut String, junctions: &[Junction]) -> Result<(), Alloc
 }
 
 /// Adds the lines of these pieces. Each is told by its line.
-fn push_pieces(text: &mut String, pieces: &[Piece]) -> Result<(), AllocError>
+fn push_pieces(text: &mut String, pieces: &Pieces) -> Result<(), AllocError>
     ensures lines { OnOk result (string_bytes text.new ≡ string_bytes text.old ++ flat_map piece_line pieces.now) }
     ensures told { OnOk result (All IsTold pieces.now) }
 {
-    for piece in pieces {
-        push_piece(text, piece)?;
+    for i in 0..pieces.len() {
+        push_piece(text, &pieces.at(i))?;
     }
     Ok(())
 }
@@ -57,12 +57,23 @@ fn push_junction(text: &mut String, junction: &Junction) -> Result<(), AllocErro
 
 /// Adds the line of a piece: its way, run and number, the junctions at its ends and its length. The line tells
 /// the piece, since its numbers fit into 64 bits.
-fn push_piece(text: &mut String, piece: &Piece) -> Result<(), AllocError>
+fn push_piece(text: &mut String, piece: &PieceView<'_>) -> Result<(), AllocError>
     ensures line { OnOk result (string_bytes text.new ≡ string_bytes text.old ++ piece_line piece.now) }
     ensures told { IsTold piece.now }
 {
-    let key = piece.key;
-    let (start, end, cm) = (piece.start, piece.end, piece.cm);
+    write_piece(text, &piece.key(), piece.start(), piece.end(), piece.cm())
+}
+
+/// Adds the line of a piece with this key, these ends and this length.
+fn write_piece(
+    text: &mut String,
+    key: &PieceKey,
+    start: i64,
+    end: i64,
+    cm: u64,
+) -> Result<(), AllocError>
+    ensures { OnOk result (string_bytes text.new ≡ string_bytes text.old ++ piece_line (record { key = key.now; start = start; end = end; shape = []; cm = cm; class = 0; forward = 0; backward = 0; names = [] })) }
+{
     writeln!(
         text,
         "p {} {} {} {} {} {}",

@@ -4,16 +4,13 @@ use Rattle.std.specs.Prelude.{All, slice_range, slice_get, Some}
 use Rattle.std.proofs.lemmas.Bool.{lt-leb, cond-false}
 use Rattle.std.proofs.lemmas.List.{drop-append-le, take-append-le, take-append-drop, length-drop, length-take-le, append-nil}
 use Rattle.std.proofs.lemmas.List.Elements.{All-head, All-tail}
+use Rattle.osm_model.proofs.TextLemmas.{part_append}
 use Rattle.road_pieces.specs.declared.lines.Head.{Head}
 use Rattle.road_pieces.specs.Lines.{Draft, ends_with, closed}
 use Rattle.road_pieces.specs.Heads.{line_of, EndsBy, AreKept, draft_of}
 
 some_is : (a b : ℕ) → Some a ≡ Some b → a ≡ b
 some_is a b e = cc
-
-part_append : (places more : List ℕ) (from to : ℕ) → from ≤ to → to ≤ length places → slice_range (places ++ more) from to ≡ slice_range places from to
-part_append places more from to h l =
-    ap (take (to - from)) (drop-append-le from places more (omega arith)) ∙ take-append-le (to - from) (drop from places) more (omega (arith, length-drop from places))
 
 pub lines_append : (places more : List ℕ) (heads : List Head) (begun : ℕ) → All (EndsBy begun) heads → begun ≤ length places → map (line_of (places ++ more)) heads ≡ map (line_of places) heads
 lines_append places more [] begun ends inside = refl

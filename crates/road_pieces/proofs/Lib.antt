@@ -20,12 +20,12 @@ mod EachLine
 mod LineLemmas
 mod MarkLemmas
 mod CourseLemmas
+mod NameLemmas
+mod PieceLemmas
 mod PartLemmas
 mod CutLemmas
 pub mod Agree
 mod RowLengths
 mod RowPieces
 mod ListAgree
-mod PlainLemmas
-mod PlainRows
 pub mod WorkedRows

@@ -13,6 +13,7 @@ use Rattle.std.proofs.lemmas.List.Folds.{list_any_none}
 use Rattle.osm_model.specs.declared.nodes.OsmNode.{OsmNode}
 use Rattle.osm_model.specs.Extract.{NodesRise}
 use Rattle.road_pieces.specs.Runs.{has_node}
+use Rattle.road_pieces.specs.Lines.{no_node}
 use Rattle.road_pieces.specs.NodeIndex.{bucket_of, BeginsAt, TakesBuckets, IsIndex, OnlyWithin}
 
 -- a larger id lies as far from the first, or farther
@@ -30,36 +31,35 @@ not_below_itself : (a : ℤ) → a ≤ℤ a
 not_below_itself a = omega (arith, ints)
 
 -- the first of rising ids is the least
-pub begins_first : (nodes : List OsmNode) (n : OsmNode) → NodesRise nodes → Some n ≡ slice_get nodes 0 → BeginsAt nodes n.id
-begins_first nodes n rise is = record {
-  first_is = λ d h. ap (λ m. m.id) (get_or_from_slice_get nodes 0 n d (sym is));
+pub begins_first : (nodes : List OsmNode) (first : ℤ) → NodesRise nodes → ((d : OsmNode) → first ≡ (get_or nodes 0 d).id) → BeginsAt nodes first
+begins_first nodes first rise is = record {
+  first_is = λ d h. sym (is d);
   none_below = λ k e h.
-      let first : get_or nodes 0 e ≡ n = get_or_from_slice_get nodes 0 n e (sym is) in
       elim (cases_lt 0 k) [
-        | inl later ↦ below_least _ _ (subst (λ m. m.id <ℤ (get_or nodes k e).id) first (rise 0 k e later h))
+        | inl later ↦ below_least _ _ (subst (λ i. i <ℤ (get_or nodes k e).id) (sym (is e)) (rise 0 k e later h))
         | inr at ↦ let z : 0 ≡ k = omega arith in
-            subst (λ j. n.id ≤ℤ (get_or nodes j e).id) z (subst (λ m. n.id ≤ℤ m.id) (sym first) (not_below_itself n.id))
+            subst (λ j. first ≤ℤ (get_or nodes j e).id) z (subst (λ i. first ≤ℤ i) (is e) (not_below_itself first))
       ];
 }
 
+-- where no node is, any id may be the first
+pub begins_nowhere : (nodes : List OsmNode) (first : ℤ) → length nodes ≡ 0 → BeginsAt nodes first
+begins_nowhere nodes first e = record { first_is = λ d h. absurd (omega arith); none_below = λ k d h. absurd (omega arith) }
+
 -- where the last node has few buckets below its own, so has each
-pub takes_all : (nodes : List OsmNode) (first : ℤ) (shift : ℕ) (last : OsmNode) → BeginsAt nodes first → NodesRise nodes → Some last ≡ slice_get nodes (length nodes - 1) → bucket_of first shift last.id < length nodes → TakesBuckets nodes first shift (length nodes)
+pub takes_all : (nodes : List OsmNode) (first : ℤ) (shift : ℕ) (last : ℤ) → BeginsAt nodes first → NodesRise nodes → ((d : OsmNode) → last ≡ (get_or nodes (length nodes - 1) d).id) → bucket_of first shift last < length nodes → TakesBuckets nodes first shift (length nodes)
 takes_all nodes first shift last begins rise is few = record {
   few = λ k d h.
-      let top : get_or nodes (length nodes - 1) d ≡ last = get_or_from_slice_get nodes (length nodes - 1) last d (sym is) in
+      let top : bucket_of first shift (get_or nodes (length nodes - 1) d).id ≡ bucket_of first shift last = ap (bucket_of first shift) (sym (is d)) in
       elim (cases_lt k (length nodes - 1)) [
         | inl less ↦
             let r = bucket_rises first (get_or nodes k d).id (get_or nodes (length nodes - 1) d).id shift (begins.none_below k d h) (below_least _ _ (rise k (length nodes - 1) d less (omega arith))) in
-            omega (arith, r, few, ap (λ m. bucket_of first shift m.id) top)
+            omega (arith, r, few, top)
         | inr from ↦
             let at : length nodes - 1 ≡ k = omega arith in
-            omega (arith, few, subst (λ j. bucket_of first shift (get_or nodes j d).id ≡ bucket_of first shift last.id) at (ap (λ m. bucket_of first shift m.id) top))
+            omega (arith, few, subst (λ j. bucket_of first shift (get_or nodes j d).id ≡ bucket_of first shift last) at top)
       ];
 }
-
-some_there : (nodes : List OsmNode) (i : ℕ) (n : OsmNode) → Some n ≡ slice_get nodes i → 0 < length nodes
-some_there [] i n e = cc
-some_there (m ∷ nodes) i n e = omega arith
 
 within_span : (a b : ℤ) → FitsSigned w64 a → FitsSigned w64 b → unsigned_abs (b -ℤ a) < 2 ^ (1 + 63)
 within_span a b f g = grind (arith, ints, rules)
@@ -68,14 +68,13 @@ no_distance : (a b : ℤ) → b ≡ a → unsigned_abs (b -ℤ a) < 2 ^ (0 + 63)
 no_distance a b e = grind (arith, ints)
 
 -- the widest shift makes two buckets at most, and one of one node
-pub takes_widest : (nodes : List OsmNode) (first : ℤ) (last : OsmNode) → FitsSigned w64 first → FitsSigned w64 last.id → BeginsAt nodes first → Some last ≡ slice_get nodes (length nodes - 1) → bucket_of first 63 last.id < length nodes
-takes_widest nodes first last f g begins is = elim (cases_lt 1 (length nodes)) [
-  | inl more ↦ omega (arith, shr_below (unsigned_abs (last.id -ℤ first)) 1 63 (within_span first last.id f g))
+pub takes_widest : (nodes : List OsmNode) (first last : ℤ) → FitsSigned w64 first → FitsSigned w64 last → BeginsAt nodes first → 0 < length nodes → ((d : OsmNode) → last ≡ (get_or nodes (length nodes - 1) d).id) → bucket_of first 63 last < length nodes
+takes_widest nodes first last f g begins some is = elim (cases_lt 1 (length nodes)) [
+  | inl more ↦ omega (arith, shr_below (unsigned_abs (last -ℤ first)) 1 63 (within_span first last f g))
   | inr one ↦
       let z : length nodes - 1 ≡ 0 = omega arith in
-      let top : get_or nodes 0 last ≡ last = get_or_from_slice_get nodes 0 last last (subst (λ j. slice_get nodes j ≡ Some last) z (sym is)) in
-      let same : last.id ≡ first = ap (λ m. m.id) (sym top) ∙ begins.first_is last (some_there nodes (length nodes - 1) last is) in
-      omega (arith, some_there nodes (length nodes - 1) last is, shr_below (unsigned_abs (last.id -ℤ first)) 0 63 (no_distance first last.id same))
+      let same : last ≡ first = is no_node ∙ (ap (λ j. (get_or nodes j no_node).id) z ∙ begins.first_is no_node some) in
+      omega (arith, shr_below (unsigned_abs (last -ℤ first)) 0 63 (no_distance first last same))
 ]
 
 -- of `place` nodes the buckets are started, up to that of the last of them
@@ -106,12 +105,12 @@ more_length : (starts : List ℕ) (m v : ℕ) → length (starts ++ replicate m 
 more_length starts m v = length-append starts (replicate m v) ∙ ap (λ n. length starts + n) (length-replicate m v)
 
 -- the next node starts the buckets up to its own
-pub more_started : (nodes : List OsmNode) (first : ℤ) (shift place : ℕ) (starts new : List ℕ) (n : OsmNode) → BeginsAt nodes first → TakesBuckets nodes first shift (length nodes) → NodesRise nodes → place < length nodes → n ≡ get_or nodes place n → AreStarted nodes first shift place starts → new ≡ starts ++ replicate (bucket_of first shift n.id + 1 - length starts) place → AreStarted nodes first shift (place + 1) new
-more_started nodes first shift place starts new n begins takes rise inside is s e =
-    let own = bucket_of first shift n.id in
+pub more_started : (nodes : List OsmNode) (first : ℤ) (shift place : ℕ) (starts new : List ℕ) (id : ℤ) → BeginsAt nodes first → TakesBuckets nodes first shift (length nodes) → NodesRise nodes → place < length nodes → ((d : OsmNode) → id ≡ (get_or nodes place d).id) → AreStarted nodes first shift place starts → new ≡ starts ++ replicate (bucket_of first shift id + 1 - length starts) place → AreStarted nodes first shift (place + 1) new
+more_started nodes first shift place starts new id begins takes rise inside is s e =
+    let own = bucket_of first shift id in
     let m = own + 1 - length starts in
-    let here : (d : OsmNode) → bucket_of first shift (get_or nodes place d).id ≡ own = λ d. ap (λ o. bucket_of first shift o.id) (get_or_default nodes place d n inside ∙ sym is) in
-    let ahead : length starts ≤ own + 1 = omega (arith, s.ahead place n (omega arith) inside, here n) in
+    let here : (d : OsmNode) → bucket_of first shift (get_or nodes place d).id ≡ own = λ d. ap (bucket_of first shift) (sym (is d)) in
+    let ahead : length starts ≤ own + 1 = omega (arith, s.ahead place no_node (omega arith) inside, here no_node) in
     let size : length (starts ++ replicate m place) ≡ own + 1 = omega (arith, more_length starts m place) in
     subst (AreStarted nodes first shift (place + 1)) (sym e) (record {
       before = λ b k d h l. elim (cases_lt k place) [
@@ -127,7 +126,7 @@ more_started nodes first shift place starts new n begins takes rise inside is s 
               | inr late ↦ ((λ x. absurd (omega (arith, late.1))), (λ x. absurd (omega (arith, same))))
             ]
       ];
-      few = omega (arith, size, takes.few place n inside, here n);
+      few = omega (arith, size, takes.few place no_node inside, here no_node);
       early = λ b h. elim (more_at starts m place b (omega arith)) [
         | inl old ↦ omega (arith, old.1, s.early b old.0)
         | inr late ↦ omega (arith, late.1)

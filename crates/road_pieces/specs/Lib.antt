@@ -18,3 +18,5 @@ pub mod Heads
 pub mod Parts
 pub mod Counts
 pub mod NodeIndex
+pub mod NameRows
+pub mod PieceRows

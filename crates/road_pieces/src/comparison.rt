@@ -3,7 +3,7 @@
 ghost use Rattle.std.specs.Prelude.{◌<◌};
 
 use crate::plain::{plain_junctions, plain_missing, plain_pieces, plain_runs, plain_ways};
-use crate::{Piece, Roads, cut};
+use crate::{Piece, PieceView, Pieces, Roads, cut};
 use osm_model::{Extract, Nodes, OsmNode, OsmWay, Refs, Relations, Tag, TagText, Tags, Ways};
 use std::alloc::{AllocError, Global};
 use std::test::Fail;
@@ -57,7 +57,7 @@ fn draw_nodes(alloc: Global, dice: &mut Dice) -> Result<Nodes, AllocError> {
         } else {
             Tags::new(alloc)
         };
-        nodes.push(OsmNode {
+        nodes.push(&OsmNode {
             id,
             lat: dice.roll(100_000) as i32,
             lon: dice.roll(100_000) as i32,
@@ -80,7 +80,7 @@ fn draw_ways(alloc: Global, dice: &mut Dice) -> Result<Ways, AllocError> {
         } else {
             tagged(alloc, "highway", "residential")?
         };
-        ways.push(OsmWay {
+        ways.push(&OsmWay {
             id: id as i64,
             tags,
             refs,
@@ -90,33 +90,28 @@ fn draw_ways(alloc: Global, dice: &mut Dice) -> Result<Ways, AllocError> {
 }
 
 /// Whether two pieces have the same fields. None has a name yet.
-fn same_piece(one: &Piece, other: &Piece) -> bool {
-    one.key == other.key
-        && one.start == other.start
-        && one.end == other.end
-        && one.shape.as_slice() == other.shape.as_slice()
-        && one.cm == other.cm
-        && one.class == other.class
-        && one.forward == other.forward
-        && one.backward == other.backward
-        && one.names.len() == other.names.len()
+fn same_piece(one: &PieceView<'_>, other: &Piece) -> bool {
+    one.key() == other.key
+        && one.start() == other.start
+        && one.end() == other.end
+        && one.shape() == other.shape.as_slice()
+        && one.cm() == other.cm
+        && one.class() == other.class
+        && one.forward() == other.forward
+        && one.backward() == other.backward
+        && one.names().len() == other.names.len()
 }
 
-fn same_pieces(ones: &[Piece], others: &[Piece]) -> bool {
-    ones.len() == others.len()
-        && ones
-            .iter()
-            .zip(others)
-            .all(|(one, other)| same_piece(one, other))
-}
-
-/// At how many places of refs the node isn't there.
-fn count_missing(extract: &Extract) -> u64 {
-    let mut count = 0u64;
-    for way in extract.ways.as_slice() {
-        count = count.saturating_add(plain_missing(extract.nodes.as_slice(), way));
+fn same_pieces(ones: &Pieces, others: &[Piece]) -> bool {
+    if ones.len() != others.len() {
+        return false;
     }
-    count
+    for i in 0..others.len() {
+        if !same_piece(&ones.at(i), &others[i]) {
+            return false;
+        }
+    }
+    true
 }
 
 /// Whether these are the roads that the plain program finds.
@@ -125,10 +120,10 @@ fn are_plain(alloc: Global, extract: &Extract, roads: &Roads) -> Result<bool, Al
     let pieces = plain_pieces(alloc, extract)?;
     Ok(
         roads.junctions.as_slice() == junctions.as_slice()
-            && same_pieces(roads.pieces.as_slice(), pieces.as_slice())
+            && same_pieces(&roads.pieces, pieces.as_slice())
             && roads.ways == plain_ways(extract)
             && roads.runs == plain_runs(alloc, extract)?
-            && roads.missing == count_missing(extract),
+            && roads.missing == plain_missing(extract),
     )
 }
 

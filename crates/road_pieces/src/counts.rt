@@ -1,4 +1,4 @@
-//! How many pieces there are.
+//! How many pieces there are, and how many places.
 
 ghost use Rattle.std.specs.Prelude.{◌≡◌, ◌<◌, ◌≤◌, length, All};
 ghost use Rattle.road_pieces.specs.Counts.{pieces_in, pieces_of_lines, places_of_lines};
@@ -29,6 +29,18 @@ fn count_line(places: &[u32], flags: &[bool]) -> u64
         if flags[places[i] as usize] {
             count += 1;
         }
+    }
+    count
+}
+
+/// The number of places of all lines.
+pub(crate) fn count_places(lines: &Lines) -> u64
+    requires { places_of_lines lines.now.done ≤ 20_000_000 }
+    ensures { result ≡ places_of_lines lines.now.done }
+{
+    let mut count = 0;
+    for i in 0..lines.len() {
+        count += lines.line(i).places.len() as u64;
     }
     count
 }

@@ -8,7 +8,7 @@ ghost use Rattle.road_pieces.specs.Lines.{all_lines, begins_with, ends_with, mar
 
 use crate::lines::Lines;
 use crate::rules::is_barrier;
-use osm_model::{Extract, Tags};
+use osm_model::{Extract, NodeView};
 use std::alloc::{AllocError, Global};
 
 /// Whether each node is a junction, in the order of the nodes.
@@ -44,19 +44,18 @@ fn flag_nodes(alloc: Global, extract: &Extract, marks: &[u8]) -> Result<Vec<bool
     requires counts { AreCounted extract.now marks.now }
     ensures { IfOk result (λ flags. flags.items ≡ map (λ n. is_junction extract.now n.id) extract.now.nodes) }
 {
-    let nodes = extract.nodes.as_slice();
-    let mut flags = Vec::with_capacity(alloc, nodes.len())?;
-    for (place, node) in nodes.iter().enumerate() {
-        flags.push(is_crossing(marks[place], &node.tags))?;
+    let mut flags = Vec::with_capacity(alloc, extract.nodes.len())?;
+    for place in 0..extract.nodes.len() {
+        flags.push(is_crossing(marks[place], &extract.nodes.at(place)))?;
     }
     Ok(flags)
 }
 
-/// Whether a node that counts so often, up to two, and has these tags is a junction.
-fn is_crossing(mark: u8, tags: &Tags) -> bool
-    ensures { result ≡ (nat_le 2 mark || (is_barrier tags.now && nat_le 1 mark)) }
+/// Whether a node that counts so often, up to two, is a junction. Its tags are looked up only where they decide.
+fn is_crossing(mark: u8, node: &NodeView<'_>) -> bool
+    ensures { result ≡ (nat_le 2 mark || (is_barrier node.now.tags && nat_le 1 mark)) }
 {
-    mark >= 2 || (mark >= 1 && is_barrier(tags))
+    mark >= 2 || (mark >= 1 && is_barrier(&node.tags()))
 }
 
 /// Counts the places of all lines. Up to two the counts are exact.

@@ -1,6 +1,6 @@
 //! Roads, cut into pieces at junctions.
 
-ghost use Rattle.std.specs.Prelude.{◌≡◌, ◌<◌, ◌≤◌, ◌++◌, ◌⊎◌, [], Option, None, Some, find, option_map, nat_lt, length, map, flat_map, All, IfOk, IfErr, OnOk};
+ghost use Rattle.std.specs.Prelude.{◌≡◌, ◌<◌, ◌≤◌, ◌⊎◌, [], Option, None, Some, find, option_map, nat_lt, length, map, flat_map, All, IfOk, IfErr, OnOk};
 ghost use Rattle.osm_model.specs.declared.nodes.OsmNode.{OsmNode};
 ghost use Rattle.road_pieces.specs.declared.faults.CutFault.{CutFault};
 ghost use Rattle.road_pieces.specs.Runs.{all_runs, is_junction};
@@ -8,16 +8,17 @@ ghost use Rattle.road_pieces.specs.Lines.{all_lines};
 ghost use Rattle.road_pieces.specs.Parts.{line_rows};
 ghost use Rattle.road_pieces.specs.Rows.{junction_row, junction_rows, piece_rows, routable_ways, missing_refs, too_long, refusal};
 
-use crate::counts::count_pieces;
+use crate::counts::{count_pieces, count_places};
 use crate::crossings::find_junctions;
 use crate::faults::CutFault;
 use crate::lines::Lines;
 use crate::parts::cut_line;
-use crate::rows::{Junction, Junctions, Piece, Pieces, Roads};
+use crate::pieces::Pieces;
+use crate::rows::{Junction, Junctions, Roads};
 use crate::rules::{is_barrier, node_access};
-use crate::survey::find_lines;
+use crate::survey::{Survey, find_lines};
 use fixed_geo::Point;
-use osm_model::{Extract, OsmNode};
+use osm_model::{Extract, NodeView};
 use std::alloc::{AllocError, Global};
 
 /// The most pieces that roads may have.
@@ -41,38 +42,48 @@ pub fn cut(alloc: Global, extract: &Extract) -> Result<Roads, CutFault>
     ensures accepted { OnOk result (refusal (piece_rows extract.now) ≡ None) }
     ensures refused { IfErr result (λ fault. (fault ≡ CutFault.OutOfMemory) ⊎ (refusal (piece_rows extract.now) ≡ Some fault)) }
 {
-    let survey = find_lines(alloc, extract)?;
-    let flags = find_junctions(alloc, extract, &survey.lines)?;
-    let count = count_pieces(&survey.lines, flags.as_slice());
+    let Survey {
+        lines,
+        ways,
+        missing,
+    } = find_lines(alloc, extract)?;
+    let flags = find_junctions(alloc, extract, &lines)?;
+    let count = count_pieces(&lines, flags.as_slice());
     if count > MOST_PIECES {
         return Err(CutFault::TooManyPieces { count });
     }
-    let pieces = cut_lines(alloc, extract, flags.as_slice(), &survey.lines)?;
-    if let Some(fault) = first_too_long(pieces.as_slice()) {
+    let runs = lines.len() as u64;
+    let pieces = cut_lines(alloc, extract, flags.as_slice(), &lines, count as usize)?;
+    drop(lines);
+    if let Some(fault) = first_too_long(&pieces) {
         return Err(fault);
     }
     let junctions = make_junctions(alloc, extract, flags.as_slice())?;
     Ok(Roads {
         junctions: Junctions::from_vec(junctions),
-        pieces: Pieces::from_vec(pieces),
-        ways: survey.ways,
-        runs: survey.lines.len() as u64,
-        missing: survey.missing,
+        pieces,
+        ways,
+        runs,
+        missing,
     })
 }
 
-/// The pieces of all lines.
+/// The pieces of all lines, which are so many.
 fn cut_lines(
     alloc: Global,
     extract: &Extract,
     flags: &[bool],
     lines: &Lines,
-) -> Result<Vec<Piece>, AllocError>
+    count: usize,
+) -> Result<Pieces, AllocError>
     requires flagged { flags.now ≡ map (λ n. is_junction extract.now n.id) extract.now.nodes }
     requires found { lines.now.done ≡ all_lines extract.now }
-    ensures { IfOk result (λ pieces. pieces.items ≡ flat_map (line_rows extract.now) (all_lines extract.now)) }
+    requires few { count ≤ 4_000_000 }
+    ensures { IfOk result (λ pieces. pieces ≡ flat_map (line_rows extract.now) (all_lines extract.now)) }
 {
-    let mut pieces = Vec::new(alloc);
+    // The pieces of a line have its points, and those between two pieces twice.
+    let points = (count_places(lines) as usize + count).saturating_sub(lines.len());
+    let mut pieces = Pieces::with_room(alloc, count, points)?;
     for i in 0..lines.len() {
         cut_line(alloc, extract, flags, &lines.line(i), &mut pieces)?;
     }
@@ -80,16 +91,18 @@ fn cut_lines(
 }
 
 /// Why the first piece that is too long is refused.
-fn first_too_long(pieces: &[Piece]) -> Option<CutFault>
+fn first_too_long(pieces: &Pieces) -> Option<CutFault>
     ensures { result ≡ option_map too_long (find (λ p. nat_lt 268_435_455 p.cm) pieces.now) }
 {
-    for piece in pieces {
-        if piece.cm > LONGEST {
+    for i in 0..pieces.len() {
+        let piece = pieces.at(i);
+        if piece.cm() > LONGEST {
+            let key = piece.key();
             return Some(CutFault::EdgeTooLong {
-                way: piece.key.way,
-                run: piece.key.run,
-                piece: piece.key.piece,
-                cm: piece.cm,
+                way: key.way,
+                run: key.run,
+                piece: key.piece,
+                cm: piece.cm(),
             });
         }
     }
@@ -105,26 +118,27 @@ fn make_junctions(
     requires { flags.now ≡ map (λ n. is_junction extract.now n.id) extract.now.nodes }
     ensures { IfOk result (λ junctions. junctions.items ≡ junction_rows extract.now) }
 {
-    let mut junctions = Vec::new(alloc);
-    for (place, node) in extract.nodes.as_slice().iter().enumerate() {
+    let count = flags.iter().filter(|flag| **flag).count();
+    let mut junctions = Vec::with_capacity(alloc, count)?;
+    for place in 0..extract.nodes.len() {
         if flags[place] {
-            junctions.push(junction_of(node))?;
+            junctions.push(junction_of(&extract.nodes.at(place)))?;
         }
     }
     Ok(junctions)
 }
 
 /// The junction of a node.
-pub(crate) fn junction_of(node: &OsmNode) -> Junction
+pub(crate) fn junction_of(node: &NodeView<'_>) -> Junction
     ensures { result ≡ junction_row node.now }
 {
     Junction {
-        osm: node.id,
+        osm: node.id(),
         at: Point {
-            lat: node.lat,
-            lon: node.lon,
+            lat: node.lat(),
+            lon: node.lon(),
         },
-        access: node_access(&node.tags),
-        barrier: is_barrier(&node.tags),
+        access: node_access(&node.tags()),
+        barrier: is_barrier(&node.tags()),
     }
 }

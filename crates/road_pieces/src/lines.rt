@@ -9,7 +9,7 @@ use std::marker::Model;
 /// Where a line stands among the places of all lines, and whose it is.
 #[derive(Clone, Copy, Debug)]
 struct Head {
-    way: usize,
+    way: u32,
     number: u32,
     from: usize,
     to: usize,
@@ -19,7 +19,7 @@ struct Head {
 /// in the list of ways, `number` the run's number in that way.
 #[derive(Clone, Copy, Debug)]
 pub(crate) struct Line<'a> {
-    pub way: usize,
+    pub way: u32,
     pub number: u32,
     pub places: &'a [u32],
 }
@@ -46,16 +46,16 @@ impl Model for Lines {
 }
 
 impl Lines {
-    /// No line yet. Takes no memory.
-    pub fn new(alloc: Global) -> Lines
-        ensures done { result.done ≡ [] }
-        ensures begun { result.begun ≡ [] }
+    /// No line yet, with room for so many places in all.
+    pub fn with_room(alloc: Global, places: usize) -> Result<Lines, AllocError>
+        ensures done { IfOk result (λ lines. lines.done ≡ []) }
+        ensures begun { IfOk result (λ lines. lines.begun ≡ []) }
     {
-        Lines {
-            places: Vec::new(alloc),
+        Ok(Lines {
+            places: Vec::with_capacity(alloc, places)?,
             heads: Vec::new(alloc),
             begun: 0,
-        }
+        })
     }
 
     /// Goes on with the begun run to a place, unless it is there already.
@@ -71,7 +71,7 @@ impl Lines {
 
     /// Ends the begun run: it is a line if it has two nodes or more, and is dropped otherwise. Says whether
     /// it is one.
-    pub fn close(&mut self, way: usize, number: u32) -> Result<bool, AllocError>
+    pub fn close(&mut self, way: u32, number: u32) -> Result<bool, AllocError>
         ensures done { OnOk result (self.new.done ≡ self.old.done ++ closed way number self.old.begun) }
         ensures begun { OnOk result (self.new.begun ≡ []) }
         ensures line { IfOk result (λ is. is ≡ nat_le 2 (length self.old.begun)) }

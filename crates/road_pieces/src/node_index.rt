@@ -7,7 +7,7 @@ ghost use Rattle.road_pieces.specs.Lines.{place_of};
 ghost use Rattle.road_pieces.specs.NodeIndex.{bucket_of, BeginsAt, TakesBuckets, IsIndex};
 
 use crate::places::find_within;
-use osm_model::OsmNode;
+use osm_model::Nodes;
 use std::alloc::{AllocError, Global};
 
 /// No shift is wider: it makes two buckets at most.
@@ -25,7 +25,7 @@ pub(crate) struct NodeIndex {
 
 impl NodeIndex {
     /// Makes the index, in one pass over the nodes.
-    pub fn new(alloc: Global, nodes: &[OsmNode]) -> Result<NodeIndex, AllocError>
+    pub fn new(alloc: Global, nodes: &Nodes) -> Result<NodeIndex, AllocError>
         requires rises { NodesRise nodes.now }
         requires few { length nodes.now ≤ 10_000_000 }
         ensures { IfOk result (λ index. IsIndex nodes.now index.first index.shift index.starts.items) }
@@ -33,8 +33,9 @@ impl NodeIndex {
         let first = first_id(nodes);
         let shift = find_shift(nodes, first);
         let mut starts = Vec::with_capacity(alloc, nodes.len() + 1)?;
-        for (place, node) in nodes.iter().enumerate() {
-            start_buckets(&mut starts, bucket(first, shift, &node.id), place as u32)?;
+        for place in 0..nodes.len() {
+            let id = nodes.id_at(place);
+            start_buckets(&mut starts, bucket(first, shift, &id), place as u32)?;
         }
         starts.push(nodes.len() as u32)?;
         Ok(NodeIndex {
@@ -46,7 +47,7 @@ impl NodeIndex {
 
     /// The place of the node with that id, and `None` where there is none. It is sought in its bucket alone,
     /// at `guess` first: neighbours on a road are often neighbours in the list.
-    pub fn find(&self, nodes: &[OsmNode], id: &i64, guess: usize) -> Option<usize>
+    pub fn find(&self, nodes: &Nodes, id: &i64, guess: usize) -> Option<usize>
         requires rises { NodesRise nodes.now }
         requires index { IsIndex nodes.now self.now.first self.now.shift self.now.starts.items }
         ensures inside { IfSome result (λ place. place < length nodes.now) }
@@ -74,27 +75,24 @@ fn bucket(first: i64, shift: u32, id: &i64) -> u64
 }
 
 /// The id of the first node, or any id where there is no node.
-fn first_id(nodes: &[OsmNode]) -> i64
+fn first_id(nodes: &Nodes) -> i64
     requires { NodesRise nodes.now }
     ensures { BeginsAt nodes.now result }
 {
-    match nodes.first() {
-        Some(node) => node.id,
-        None => 0,
-    }
+    if nodes.len() == 0 { 0 } else { nodes.id_at(0) }
 }
 
 /// The least shift that makes no more buckets than nodes.
-fn find_shift(nodes: &[OsmNode], first: i64) -> u32
+fn find_shift(nodes: &Nodes, first: i64) -> u32
     requires rises { NodesRise nodes.now }
     requires first { BeginsAt nodes.now first }
     ensures narrow { result < 64 }
     ensures few { TakesBuckets nodes.now first result (length nodes.now) }
 {
-    let Some(last) = nodes.last() else {
+    if nodes.len() == 0 {
         return 0;
-    };
-    let last = last.id;
+    }
+    let last = nodes.id_at(nodes.len() - 1);
     for shift in 0..WIDEST {
         if bucket(first, shift, &last) < nodes.len() as u64 {
             return shift;

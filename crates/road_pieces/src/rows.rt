@@ -1,5 +1,6 @@
 //! The roads of an extract: junctions, and the pieces between them.
 
+use crate::pieces::Pieces;
 use fixed_geo::{Point, Shape};
 use osm_model::{Names, PieceKey, Seq};
 
@@ -43,6 +44,3 @@ pub struct Roads {
 
 /// A list of junctions.
 pub type Junctions = Seq<Junction>;
-
-/// A list of pieces.
-pub type Pieces = Seq<Piece>;

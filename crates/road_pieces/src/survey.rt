@@ -1,7 +1,7 @@
 //! The runs of the ways of an extract.
 
 ghost use Rattle.std.specs.Prelude.{◌≡◌, ◌<◌, ◌≤◌, ◌+◌, ◌++◌, ◌∷◌, [], length, not, count_by, IfOk, OnOk};
-ghost use Rattle.osm_model.specs.Extract.{NodesRise};
+ghost use Rattle.osm_model.specs.Extract.{NodesRise, refs_in};
 ghost use Rattle.road_pieces.specs.Runs.{has_node};
 ghost use Rattle.road_pieces.specs.Lines.{lines_from, all_lines};
 ghost use Rattle.road_pieces.specs.NodeIndex.{IsIndex};
@@ -10,7 +10,7 @@ ghost use Rattle.road_pieces.specs.Rows.{routable_ways, missing_refs};
 use crate::lines::Lines;
 use crate::node_index::NodeIndex;
 use crate::rules::is_routable;
-use osm_model::{Extract, OsmNode};
+use osm_model::{Extract, Nodes, Ways};
 use std::alloc::{AllocError, Global};
 
 /// The runs of an extract, the number of its routable ways, and the number of places in their refs whose
@@ -28,15 +28,16 @@ pub(crate) fn find_lines(alloc: Global, extract: &Extract) -> Result<Survey, All
     ensures ways { IfOk result (λ s. s.ways ≡ routable_ways extract.now) }
     ensures missing { IfOk result (λ s. s.missing ≡ missing_refs extract.now) }
 {
-    let nodes = extract.nodes.as_slice();
+    let nodes = &extract.nodes;
     let index = NodeIndex::new(alloc, nodes)?;
-    let mut lines = Lines::new(alloc);
+    let mut lines = Lines::with_room(alloc, count_refs(&extract.ways))?;
     let mut routable = 0;
     let mut missing = 0;
-    for (place, way) in extract.ways.as_slice().iter().enumerate() {
-        if is_routable(&way.tags) {
+    for place in 0..extract.ways.len() {
+        let way = extract.ways.at(place);
+        if is_routable(way.tags()) {
             routable += 1;
-            missing += add_way(&mut lines, nodes, &index, place, way.refs.as_slice())?;
+            missing += add_way(&mut lines, nodes, &index, place as u32, way.refs())?;
         }
     }
     Ok(Survey {
@@ -46,12 +47,24 @@ pub(crate) fn find_lines(alloc: Global, extract: &Extract) -> Result<Survey, All
     })
 }
 
+/// The number of refs of all ways.
+fn count_refs(ways: &Ways) -> usize
+    requires { refs_in ways.now ≤ 20_000_000 }
+    ensures { result ≡ refs_in ways.now }
+{
+    let mut count = 0;
+    for i in 0..ways.len() {
+        count += ways.at(i).refs().len();
+    }
+    count
+}
+
 /// Adds the runs of a way to the lines, and says how many of its refs name no node.
 fn add_way(
     lines: &mut Lines,
-    nodes: &[OsmNode],
+    nodes: &Nodes,
     index: &NodeIndex,
-    way: usize,
+    way: u32,
     refs: &[i64],
 ) -> Result<u64, AllocError>
     requires rises { NodesRise nodes.now }

@@ -36,18 +36,19 @@ fn way(alloc: Global, refs: &[i64]) -> Result<OsmWay, AllocError> {
 fn with_refs(alloc: Global, refs: &[i64]) -> Result<Option<Extract>, AllocError> {
     let mut nodes = Nodes::new(alloc);
     for (id, lat) in [(1, 0), (2, 10_000), (3, 20_000), (4, 30_000), (5, 40_000)] {
-        nodes.push(node(alloc, id, lat))?;
+        nodes.push(&node(alloc, id, lat))?;
     }
     let mut ways = Ways::new(alloc);
-    ways.push(way(alloc, refs)?)?;
+    ways.push(&way(alloc, refs)?)?;
     Ok(Extract::of_lists(nodes, ways, Relations::new(alloc)))
 }
 
 /// The ends and lengths of the pieces, in their order.
 fn ends_of(alloc: Global, roads: &Roads) -> Result<Vec<(i64, i64, u64)>, AllocError> {
     let mut ends = Vec::new(alloc);
-    for piece in roads.pieces.as_slice() {
-        ends.push((piece.start, piece.end, piece.cm))?;
+    for i in 0..roads.pieces.len() {
+        let piece = roads.pieces.at(i);
+        ends.push((piece.start(), piece.end(), piece.cm()))?;
     }
     Ok(ends)
 }
@@ -115,16 +116,16 @@ fn longest_piece(rt: HostRuntime) -> Result<(), Fail> {
         ),
     ] {
         let mut nodes = Nodes::new(alloc);
-        nodes.push(node(alloc, 1, 0))?;
-        nodes.push(node(alloc, 2, lat))?;
+        nodes.push(&node(alloc, 1, 0))?;
+        nodes.push(&node(alloc, 2, lat))?;
         let mut ways = Ways::new(alloc);
-        ways.push(way(alloc, &[1, 2])?)?;
+        ways.push(&way(alloc, &[1, 2])?)?;
         let extract = Extract::of_lists(nodes, ways, Relations::new(alloc)).ok_or("no extract")?;
         let roads = cut(alloc, &extract);
         assert_eq!(rt; roads.as_ref().err().copied(), fault, "to {lat}");
         let length = match &roads {
-            Ok(roads) => roads.pieces.get(0).map(|piece| piece.cm),
-            Err(_) => None,
+            Ok(roads) if roads.pieces.len() > 0 => Some(roads.pieces.at(0).cm()),
+            _ => None,
         };
         assert_eq!(rt; length, cm, "to {lat}");
     }
@@ -154,10 +155,10 @@ fn barriers(rt: HostRuntime) -> Result<(), Fail> {
             if id == 2 || id == 5 {
                 made.tags.push(tag(alloc, "barrier", value)?)?;
             }
-            nodes.push(made)?;
+            nodes.push(&made)?;
         }
         let mut ways = Ways::new(alloc);
-        ways.push(way(alloc, &[1, 2, 3])?)?;
+        ways.push(&way(alloc, &[1, 2, 3])?)?;
         let extract = Extract::of_lists(nodes, ways, Relations::new(alloc)).ok_or("no extract")?;
         let roads = cut(alloc, &extract).ok().ok_or("refused")?;
         let found = ends_of(alloc, &roads)?;
@@ -175,7 +176,7 @@ fn barriers(rt: HostRuntime) -> Result<(), Fail> {
 fn with_ids(alloc: Global, ids: &[i64]) -> Result<Option<Extract>, AllocError> {
     let mut nodes = Nodes::new(alloc);
     for id in ids {
-        nodes.push(node(alloc, *id, 0))?;
+        nodes.push(&node(alloc, *id, 0))?;
     }
     Ok(Extract::of_lists(nodes, Ways::new(alloc), Relations::new(alloc)))
 }
@@ -187,7 +188,7 @@ fn places_of(
     sought: &[i64],
     guess: usize,
 ) -> Result<Vec<Option<usize>>, AllocError> {
-    let nodes = extract.nodes.as_slice();
+    let nodes = &extract.nodes;
     let index = NodeIndex::new(alloc, nodes)?;
     let mut places = Vec::new(alloc);
     for id in sought {

@@ -1,5 +1,4 @@
-use Rattle.std.proofs.Common.{rules, ◌≡◌, ◌∙◌, ap, subst}
-use Rattle.std.specs.Prelude.{All}
+use Rattle.std.proofs.Common.{rules, ◌≡◌, ◌∙◌, ap}
 use Rattle.std.specs.String.{string_bytes}
 use Rattle.mjolnir_cli.specs.PlainList.{list_of}
 use Rattle.mjolnir_cli.specs.ListReading.{pieces_told, IsTold}
@@ -11,4 +10,4 @@ returns-clause-told c =
     let junctions = c.args.roads.now.junctions in
     let pieces = c.args.roads.now.pieces in
     let list : string_bytes c.push_pieces.new.text ≡ list_of junctions pieces = search rules in
-    ap pieces_told list ∙ list_told junctions pieces (subst (All IsTold) c.as_slice-2.ensures c.in_ok-push_pieces.ensures.told)
+    ap pieces_told list ∙ list_told junctions pieces c.in_ok-push_pieces.ensures.told

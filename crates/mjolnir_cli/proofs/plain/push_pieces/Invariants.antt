@@ -7,9 +7,9 @@ use Rattle.mjolnir_cli.specs.PlainList.{piece_line}
 use Rattle.mjolnir_cli.specs.ListReading.{IsTold}
 use Rattle.mjolnir_cli.proofs.plain.push_pieces.Given as goal
 
-abbrev pub invariant-loop-piece : goal.invariant-loop-piece
-invariant-loop-piece l =
+abbrev pub invariant-loop-i : goal.invariant-loop-i
+invariant-loop-i l =
     record {
-      lines : string_bytes l.text ++ flat_map piece_line (drop l.piece-index l.pieces) ≡ string_bytes l.fn.text ++ flat_map piece_line l.pieces;
-      told : All IsTold (take l.piece-index l.pieces);
+      lines : string_bytes l.text ++ flat_map piece_line (drop l.i l.pieces) ≡ string_bytes l.fn.text ++ flat_map piece_line l.pieces;
+      told : All IsTold (take l.i l.pieces);
     }

@@ -4,6 +4,6 @@ use Rattle.std.specs.Prelude.{find}
 use Rattle.mjolnir_cli.specs.Unbuilt.{has_tags}
 use Rattle.mjolnir_cli.proofs.unbuilt.first_node.Given as goal
 
-abbrev pub invariant-loop-node : goal.invariant-loop-node
-invariant-loop-node l =
-    find (λ node. has_tags node.tags) (drop l.node-index l.nodes) ≡ find (λ node. has_tags node.tags) l.nodes
+abbrev pub invariant-loop-i : goal.invariant-loop-i
+invariant-loop-i l =
+    find (λ node. has_tags node.tags) (drop l.i l.nodes) ≡ find (λ node. has_tags node.tags) l.nodes

@@ -27,31 +27,31 @@ first_long pieces = option_map too_long (find (λ p. nat_lt 268_435_455 p.cm) pi
 
 pub count_pieces-count-requires-clause-inside : goal.count_pieces-count-requires-clause-inside
 count_pieces-count-requires-clause-inside c =
-    inside c.args.extract.now _ _ c.in_ok-survey.ensures.lines (c.as_slice.ensures.value ∙ c.in_ok-flags.ensures)
+    inside c.args.extract.now _ _ c.in_ok-lines.ensures.lines (c.as_slice.ensures.value ∙ c.in_ok-flags.ensures)
 
 pub count_pieces-count-requires-clause-short : goal.count_pieces-count-requires-clause-short
 count_pieces-count-requires-clause-short c =
-    subst (λ ls. places_of_lines ls ≤ 20_000_000) (sym c.in_ok-survey.ensures.lines) (few_places c.args.extract.now)
+    subst (λ ls. places_of_lines ls ≤ 20_000_000) (sym c.in_ok-lines.ensures.lines) (few_places c.args.extract.now)
 
 pub returns-then-count-gt-MOST_PIECES-clause-refused : goal.returns-then-count-gt-MOST_PIECES-clause-refused
 returns-then-count-gt-MOST_PIECES-clause-refused c =
     inr (refuse_many (piece_rows c.args.extract.now) c.count_pieces-count.result
-    (counted c.args.extract.now _ _ _ c.in_ok-survey.ensures.lines (c.as_slice.ensures.value ∙ c.in_ok-flags.ensures) c.count_pieces-count.ensures) c.if-count-gt-MOST_PIECES.true)
+    (counted c.args.extract.now _ _ _ c.in_ok-lines.ensures.lines (c.as_slice.ensures.value ∙ c.in_ok-flags.ensures) c.count_pieces-count.ensures) c.if-count-gt-MOST_PIECES.true)
 
 pub returns-in-Some-clause-refused : goal.returns-in-Some-clause-refused
 returns-in-Some-clause-refused c =
     inr (refuse_long (piece_rows c.args.extract.now) c.count_pieces-count.result _
-    (counted c.args.extract.now _ _ _ c.in_ok-survey.ensures.lines (c.as_slice.ensures.value ∙ c.in_ok-flags.ensures) c.count_pieces-count.ensures) c.if-count-gt-MOST_PIECES.false
-    (c.in-Some.ensures ∙ ap first_long (c.as_slice-3.ensures.value ∙ (c.in_ok-pieces.ensures ∙ rows_are c.args.extract.now))))
+    (counted c.args.extract.now _ _ _ c.in_ok-lines.ensures.lines (c.as_slice.ensures.value ∙ c.in_ok-flags.ensures) c.count_pieces-count.ensures) c.if-count-gt-MOST_PIECES.false
+    (c.in-Some.ensures ∙ ap first_long (c.in_ok-pieces.ensures ∙ rows_are c.args.extract.now)))
 
 pub returns-clause-pieces : goal.returns-clause-pieces
-returns-clause-pieces c = c.from_vec-2.ensures ∙ (c.in_ok-pieces.ensures ∙ rows_are c.args.extract.now)
+returns-clause-pieces c = c.in_ok-pieces.ensures ∙ rows_are c.args.extract.now
 
 pub returns-clause-runs : goal.returns-clause-runs
-returns-clause-runs c = c.len.ensures ∙ (ap length c.in_ok-survey.ensures.lines ∙ as_many c.args.extract.now)
+returns-clause-runs c = c.len-runs.ensures ∙ (ap length c.in_ok-lines.ensures.lines ∙ as_many c.args.extract.now)
 
 pub returns-clause-accepted : goal.returns-clause-accepted
 returns-clause-accepted c =
     refuse_long (piece_rows c.args.extract.now) c.count_pieces-count.result _
-    (counted c.args.extract.now _ _ _ c.in_ok-survey.ensures.lines (c.as_slice.ensures.value ∙ c.in_ok-flags.ensures) c.count_pieces-count.ensures) c.if-count-gt-MOST_PIECES.false
-    (c.in_default.ensures ∙ ap first_long (c.as_slice-3.ensures.value ∙ (c.in_ok-pieces.ensures ∙ rows_are c.args.extract.now)))
+    (counted c.args.extract.now _ _ _ c.in_ok-lines.ensures.lines (c.as_slice.ensures.value ∙ c.in_ok-flags.ensures) c.count_pieces-count.ensures) c.if-count-gt-MOST_PIECES.false
+    (c.in_default.ensures ∙ ap first_long (c.in_ok-pieces.ensures ∙ rows_are c.args.extract.now))

@@ -1,10 +1,22 @@
-use Rattle.std.proofs.Common.{sym, ap, ◌∙◌, ◌++◌, subst, arith}
+use Rattle.std.proofs.Common.{◌≤◌, sym, ap, ◌∙◌, ◌++◌, subst, arith}
 use Rattle.std.specs.Prelude.{All}
+use Rattle.std.specs.List.{flat_map}
+use Rattle.std.proofs.lemmas.List.{take_all}
 use Rattle.road_pieces.specs.Lines.{Line, IsSound}
 use Rattle.road_pieces.specs.Parts.{line_rows}
+use Rattle.road_pieces.specs.Counts.{places_of_lines}
 use Rattle.road_pieces.proofs.LineLemmas.{lines_sound}
 use Rattle.road_pieces.proofs.EachLine.{at_line, flat_more}
+use Rattle.road_pieces.proofs.CutLemmas.{few_places}
 use Rattle.road_pieces.proofs.cutting.cut_lines.Goals as goal
+
+pub count_places-requires : goal.count_places-requires
+count_places-requires c =
+    subst (λ ls. places_of_lines ls ≤ 20_000_000) (sym c.requires.found) (few_places c.args.extract.now)
+
+pub overflow_add-count_places : goal.overflow_add-count_places
+overflow_add-count_places c =
+    omega (arith, c.count_places.ensures, subst (λ ls. places_of_lines ls ≤ 20_000_000) (sym c.requires.found) (few_places c.args.extract.now))
 
 pub cut_line-requires-clause-sound : goal.cut_line-requires-clause-sound
 cut_line-requires-clause-sound c =
@@ -15,3 +27,7 @@ pub loop-i-preserved : goal.loop-i-preserved
 loop-i-preserved c =
     let line : Line = record { way = c.line.result.way; number = c.line.result.number; places = c.line.result.places.now } in
     c.in_ok-cut_line.ensures ∙ (ap (λ l. l ++ line_rows c.args.extract.now line) c.loop-i.invariant ∙ flat_more (line_rows c.args.extract.now) c.args.lines.now.done c.loop-i.i line (omega arith) c.line.ensures)
+
+pub returns : goal.returns
+returns c =
+    c.loop-i.invariant ∙ ap (flat_map (line_rows c.args.extract.now)) (take_all c.loop-i.i c.args.lines.now.done (omega arith) ∙ c.requires.found)

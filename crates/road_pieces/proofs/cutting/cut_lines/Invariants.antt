@@ -5,4 +5,4 @@ use Rattle.road_pieces.specs.Parts.{line_rows}
 use Rattle.road_pieces.proofs.cutting.cut_lines.Given as goal
 
 abbrev pub invariant-loop-i : goal.invariant-loop-i
-invariant-loop-i l = l.pieces.items ≡ flat_map (line_rows l.extract) (take l.i l.lines.done)
+invariant-loop-i l = l.pieces ≡ flat_map (line_rows l.extract) (take l.i l.lines.done)

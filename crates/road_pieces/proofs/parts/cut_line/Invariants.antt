@@ -4,4 +4,4 @@ use Rattle.road_pieces.proofs.parts.cut_line.Given as goal
 
 abbrev pub invariant-loop-to : goal.invariant-loop-to
 invariant-loop-to l =
-    IsCut l.extract (record { way = l.line.way; number = l.line.number; places = l.places }) l.way l.initial.pieces.items l.pieces.items l.piece l.from l.to
+    IsCut l.extract (record { way = l.line.way; number = l.line.number; places = l.places }) l.way l.initial.pieces l.pieces l.piece l.from l.to

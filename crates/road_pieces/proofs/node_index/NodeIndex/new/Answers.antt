@@ -7,7 +7,8 @@ pub loop-place-preserved : goal.loop-place-preserved
 loop-place-preserved c =
     let fits : FitsSigned w64 c.first_id-first.result = search rules in
     let same = to_z-of_z w64 c.first_id-first.result fits in
-    rw same (more_started _ _ _ _ _ _ c.index-nodes-place.result c.first_id-first.ensures (rw same at c.find_shift-shift.ensures.few) c.requires.rises c.loop-place-test.true c.index-nodes-place.is (rw same at c.loop-place.invariant) (rw (c.bucket.ensures, same) at c.in_ok-start_buckets.ensures))
+    let id : FitsSigned w64 c.id_at-id.result = search rules in
+    rw same (more_started c.args.nodes.now _ _ _ _ _ c.id_at-id.result c.first_id-first.ensures (rw same at c.find_shift-shift.ensures.few) c.requires.rises (omega arith) c.id_at-id.ensures (rw same at c.loop-place.invariant) (rw (c.bucket.ensures, same, to_z-of_z w64 c.id_at-id.result id) at c.in_ok-start_buckets.ensures))
 
 pub returns : goal.returns
 returns c =
