@@ -18,3 +18,4 @@ pub mod TilesLow
 pub mod FolderAgree
 pub mod Headline
 pub mod WorkedRows
+pub mod WorkedTurns
