@@ -1,5 +1,6 @@
 pub mod Reverses
 pub mod Locals
+pub mod ToldPatterns
 pub mod MaskLaw
 pub mod EdgeAgree
 pub mod PatternsAgree
