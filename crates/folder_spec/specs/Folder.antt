@@ -72,7 +72,7 @@ pub record Given : Type 0 where
 -- .. as the turn restrictions and the roads of the extract say
 pub record AreGiven (x : Extract) (given : Given) : Type 0 where
   pub patterns_are : (pattern : List DirectedPiece) (modes : ℕ) → Among given.patterns (pattern, modes) ↔ IsPattern x pattern modes
-  pub not_thru_is : (p : DirectedPiece) → IsPiece x p → (given.not_thru p ≡ true) ↔ IsNotThru x p
+  pub not_thru_is : (p : DirectedPiece) → (given.not_thru p ≡ true) ↔ (IsPiece x p × IsNotThru x p)
 
 -- the elements, each where it first stands
 abbrev pub first_seen : List (List ℕ) → List (List ℕ) → List (List ℕ)
@@ -173,3 +173,8 @@ pub record IsFolder (spell : TileFields → List ℕ) (report : Extract → ℕ 
 -- where a tile walk over the graph of the folder's tiles does.
 abbrev pub FolderHasWalks : Type 0
 FolderHasWalks = (x : Extract) (asked : ℕ) (numbers : FormatNumbers) (given : Given) → AreGiven x given → (mode : ℕ) → HasMode numbers.all mode → (a b : ℤ) (total : ℕ) → RoadWalk x asked mode a b total ↔ TileWalk (graph_of_tiles (folder_tiles x asked numbers given)) numbers.vehicles mode a b total
+
+-- The law of one folder: the files are determined by the extract, the asked modes and the numbers of the format, whatever
+-- was given in whatever order.
+abbrev pub OneFolder : Type 0
+OneFolder = (spell : TileFields → List ℕ) (report : Extract → ℕ → List TileFields → List ℕ) (x : Extract) (asked : ℕ) (numbers : FormatNumbers) (files others : List (List ℕ × List ℕ)) → IsFolder spell report x asked numbers files → IsFolder spell report x asked numbers others → files ≡ others

@@ -8,6 +8,7 @@ pub mod Stretches
 pub mod PieceMatchLaw
 pub mod ReadingLaw
 pub mod Sorted
+pub mod SequenceOrder
 pub mod PiecesAre
 pub mod PiecesOnce
 pub mod ListedLaws
