@@ -10,7 +10,7 @@ use Rattle.road_pieces.specs.Rules.{names_of, way_tags, node_access, node_tags}
 use Rattle.road_pieces.proofs.Members.{IsIn, in_map, of_map, in_from_among, among_from_in}
 use Rattle.road_walks.specs.Masks.{in_mask}
 use Rattle.road_walks.specs.BaseEdges.{FormatNumbers, reverse_of, local_index, is_same}
-use Rattle.road_walks.specs.Orders.{number_of, same_texts, sequence_less}
+use Rattle.road_walks.specs.Orders.{number_of_bits, same_texts, sequence_below}
 use Rattle.road_walks.proofs.Locals.{in_filter}
 use Rattle.road_walks.proofs.Sorted.{of_filter, sequences_connected}
 use Rattle.road_walks.proofs.SequenceOrder.{sequence_never, sequence_on, same_rising, same_any, same_answers}
@@ -18,9 +18,9 @@ use Rattle.tile_graph.specs.Tiles.{TileFields}
 use Rattle.folder_spec.specs.Links.{Link, base_link, edges_of}
 use Rattle.folder_spec.specs.Chains.{most_chain_edges, most_edge_cm, access_of, piece_level, piece_class}
 use Rattle.folder_spec.specs.FolderWalks.{from_node, to_node, link_cm}
-use Rattle.folder_spec.specs.Tables.{TileRows, Table}
-use Rattle.folder_spec.specs.Rows.{first_of, tells, has_bit, mask_of, sequence_patterns, all_kept, stored_patterns, is_flagged, is_masked, are_alike, are_two, is_contractible, ways_on, chain_on, longest_chain, is_chain, links_at, levels_at, edges_at, kept_at, row_at, nodes_in, tiles_on, rows_of, rows_on, table_of}
-use Rattle.folder_spec.specs.Records.{ToldFields, is_shortcut, sequence_of, starts_in, tile_from}
+use Rattle.folder_spec.specs.Tables.{TileRows, RowTable}
+use Rattle.folder_spec.specs.Rows.{first_and_more, tells, has_bit, mask_of, sequence_patterns, all_kept, stored_patterns, is_flagged, is_masked, are_alike, are_two, is_contractible, ways_on, chain_on, longest_chain, is_chain, links_at, levels_at, level_edges_at, kept_at, row_at, nodes_in, tiles_on, rows_of, rows_on, extract_table}
+use Rattle.folder_spec.specs.Records.{ToldFields, is_shortcut, sequence_row_of, starts_in, tile_from}
 use Rattle.folder_spec.specs.Folder.{Given, tile_number, told_fields, folder_tiles, files_of, OneFolder}
 
 abbrev Patterns : Type 0
@@ -48,7 +48,7 @@ module _ (x : Extract) (asked : ℕ) (numbers : FormatNumbers) (tile_of : ℕ �
   bit_same e i = same_any (tells x numbers e i) a b same.to same.from
 
   mask_same : (e : DirectedPiece) → mask_of x asked numbers a tile_of e ≡ mask_of x asked numbers b tile_of e
-  mask_same e = λ i. number_of (λ j. bit_same e j i) 0 numbers.bits
+  mask_same e = λ i. number_of_bits (λ j. bit_same e j i) 0 numbers.bits
 
   sequences_same : AreSame (sequence_patterns x asked numbers a tile_of) (sequence_patterns x asked numbers b tile_of)
   sequences_same = same_filter (λ s. not (in_mask (local_index x) numbers.vehicles numbers.bits s.0 s.1)) a b same
@@ -75,15 +75,15 @@ module _ (x : Extract) (asked : ℕ) (numbers : FormatNumbers) (tile_of : ℕ �
   two_same n (p ∷ (q ∷ (r ∷ rs))) = refl
 
   contractible_same : (k : ℕ) (n : ℤ) → is_contractible x asked numbers a tile_of k n ≡ is_contractible x asked numbers b tile_of k n
-  contractible_same k n = two_same n (edges_at x asked numbers a tile_of k n)
+  contractible_same k n = two_same n (level_edges_at x asked numbers a tile_of k n)
 
   ways_same : (k : ℕ) (p : DirectedPiece) → ways_on x asked numbers a tile_of k p ≡ ways_on x asked numbers b tile_of k p
   ways_same k p =
-      λ i. cond (contractible_same k (piece_end x p) i) (filter (λ q. not (is_same q p) && not (is_same q (reverse_of p))) (edges_at x asked numbers a tile_of k (piece_end x p))) []
+      λ i. cond (contractible_same k (piece_end x p) i) (filter (λ q. not (is_same q p) && not (is_same q (reverse_of p))) (level_edges_at x asked numbers a tile_of k (piece_end x p))) []
 
   on_same : (fuel k : ℕ) (p : DirectedPiece) → chain_on x asked numbers a tile_of fuel k p ≡ chain_on x asked numbers b tile_of fuel k p
   on_same zero k p = refl
-  on_same (suc fuel) k p = λ i. first_of (λ q. on_same fuel k q i) (ways_same k p i)
+  on_same (suc fuel) k p = λ i. first_and_more (λ q. on_same fuel k q i) (ways_same k p i)
 
   longer_same : (fuel k : ℕ) (p : DirectedPiece) → ◌≡◌ {A = Link DirectedPiece} (record { first = p; more = chain_on x asked numbers a tile_of fuel k p }) (record { first = p; more = chain_on x asked numbers b tile_of fuel k p })
   longer_same fuel k p = λ i. record { first = p; more = on_same fuel k p i }
@@ -97,7 +97,7 @@ module _ (x : Extract) (asked : ℕ) (numbers : FormatNumbers) (tile_of : ℕ �
 
   links_same : (k : ℕ) (n : ℤ) → links_at x asked numbers a tile_of k n ≡ links_at x asked numbers b tile_of k n
   links_same k n =
-      λ i. filter (λ l. chain_same k l i) (map (λ p. longest_same k p i) (edges_at x asked numbers a tile_of k n)) ++ map base_link (edges_at x asked numbers a tile_of k n)
+      λ i. filter (λ l. chain_same k l i) (map (λ p. longest_same k p i) (level_edges_at x asked numbers a tile_of k n)) ++ map base_link (level_edges_at x asked numbers a tile_of k n)
 
   row_same : (k : ℕ) (n : ℤ) → row_at x asked numbers a tile_of k n ≡ row_at x asked numbers b tile_of k n
   row_same k n =
@@ -110,19 +110,19 @@ module _ (x : Extract) (asked : ℕ) (numbers : FormatNumbers) (tile_of : ℕ �
   level_same : (k : ℕ) → rows_on x asked numbers a tile_of k ≡ rows_on x asked numbers b tile_of k
   level_same k = λ i. map (λ c. rows_same k c i) (tiles_on x asked numbers a tile_of k)
 
-  tiles_same : (table_of x asked numbers a tile_of).tiles ≡ (table_of x asked numbers b tile_of).tiles
+  tiles_same : (extract_table x asked numbers a tile_of).tiles ≡ (extract_table x asked numbers b tile_of).tiles
   tiles_same = λ i. flat_map (λ k. level_same k i) (0 ∷ (1 ∷ (2 ∷ [])))
 
 -- tiles of tables that differ in the order of their sequences
 module _ (x : Extract) (told : ToldFields) (tiles : List TileRows) (mask : DirectedPiece → ℕ) (tile_of : ℕ → ℤ → ℕ) (s r : Patterns) (same : AreSame s r) where
-  abbrev With : Patterns → Table
+  abbrev With : Patterns → RowTable
   With l = record { tiles = tiles; sequences = l; mask = mask }
 
   listed_same : (rows : TileRows) → (tile_from x told (With s) tile_of rows).sequences ≡ (tile_from x told (With r) tile_of rows).sequences
   listed_same rows =
-      let both : AreSame (map (sequence_of x told (With s) tile_of) (filter (starts_in x told (With s) tile_of rows) s)) (map (sequence_of x told (With s) tile_of) (filter (starts_in x told (With s) tile_of rows) r)) =
-      same_map (sequence_of x told (With s) tile_of) (filter (starts_in x told (With s) tile_of rows) s) (filter (starts_in x told (With s) tile_of rows) r) (same_filter (starts_in x told (With s) tile_of rows) s r same) in
-      same_rising sequence_less sequences_connected sequence_never sequence_on (map (sequence_of x told (With s) tile_of) (filter (starts_in x told (With s) tile_of rows) s)) (map (sequence_of x told (With s) tile_of) (filter (starts_in x told (With s) tile_of rows) r)) both.to both.from
+      let both : AreSame (map (sequence_row_of x told (With s) tile_of) (filter (starts_in x told (With s) tile_of rows) s)) (map (sequence_row_of x told (With s) tile_of) (filter (starts_in x told (With s) tile_of rows) r)) =
+      same_map (sequence_row_of x told (With s) tile_of) (filter (starts_in x told (With s) tile_of rows) s) (filter (starts_in x told (With s) tile_of rows) r) (same_filter (starts_in x told (With s) tile_of rows) s r same) in
+      same_rising sequence_below sequences_connected sequence_never sequence_on (map (sequence_row_of x told (With s) tile_of) (filter (starts_in x told (With s) tile_of rows) s)) (map (sequence_row_of x told (With s) tile_of) (filter (starts_in x told (With s) tile_of rows) r)) both.to both.from
 
   tile_same : (rows : TileRows) → tile_from x told (With s) tile_of rows ≡ tile_from x told (With r) tile_of rows
   tile_same rows =
@@ -146,13 +146,13 @@ module _ (x : Extract) (asked : ℕ) (numbers : FormatNumbers) (g h : Given) (sa
   stored patterns = stored_patterns x asked numbers patterns tile
 
   -- all but the order of the sequences
-  first_part : folder_tiles x asked numbers g ≡ map (tile_from x (told_fields x asked numbers h) (record { tiles = (table_of x asked numbers h.patterns tile).tiles; sequences = stored g.patterns; mask = mask_of x asked numbers h.patterns tile }) tile) (table_of x asked numbers h.patterns tile).tiles
+  first_part : folder_tiles x asked numbers g ≡ map (tile_from x (told_fields x asked numbers h) (record { tiles = (extract_table x asked numbers h.patterns tile).tiles; sequences = stored g.patterns; mask = mask_of x asked numbers h.patterns tile }) tile) (extract_table x asked numbers h.patterns tile).tiles
   first_part =
       λ i. map (tile_from x (told_same i) (record { tiles = tiles_same x asked numbers tile g.patterns h.patterns same i; sequences = stored g.patterns; mask = λ e. mask_same x asked numbers tile g.patterns h.patterns same e i }) tile) (tiles_same x asked numbers tile g.patterns h.patterns same i)
 
-  second_part : map (tile_from x (told_fields x asked numbers h) (record { tiles = (table_of x asked numbers h.patterns tile).tiles; sequences = stored g.patterns; mask = mask_of x asked numbers h.patterns tile }) tile) (table_of x asked numbers h.patterns tile).tiles ≡ folder_tiles x asked numbers h
+  second_part : map (tile_from x (told_fields x asked numbers h) (record { tiles = (extract_table x asked numbers h.patterns tile).tiles; sequences = stored g.patterns; mask = mask_of x asked numbers h.patterns tile }) tile) (extract_table x asked numbers h.patterns tile).tiles ≡ folder_tiles x asked numbers h
   second_part =
-      λ i. map (λ rows. tile_same x (told_fields x asked numbers h) (table_of x asked numbers h.patterns tile).tiles (mask_of x asked numbers h.patterns tile) tile (stored g.patterns) (stored h.patterns) (stored_same x asked numbers tile g.patterns h.patterns same) rows i) (table_of x asked numbers h.patterns tile).tiles
+      λ i. map (λ rows. tile_same x (told_fields x asked numbers h) (extract_table x asked numbers h.patterns tile).tiles (mask_of x asked numbers h.patterns tile) tile (stored g.patterns) (stored h.patterns) (stored_same x asked numbers tile g.patterns h.patterns same) rows i) (extract_table x asked numbers h.patterns tile).tiles
 
   given_same : folder_tiles x asked numbers g ≡ folder_tiles x asked numbers h
   given_same = first_part ∙ second_part

@@ -4,7 +4,7 @@ use Rattle.std.specs.Prelude.{◌||◌, ◌&&◌, nat_eq, nat_lt}
 use Rattle.std.specs.List.{list_any}
 use Rattle.std.proofs.lemmas.Bool.{both_ways, and_parts, or_cases, or_left, or_right, eqb-true}
 use Rattle.road_pieces.proofs.Members.{IsIn}
-use Rattle.road_walks.specs.Orders.{rising, list_less, same_numbers, sequence_less}
+use Rattle.road_walks.specs.Orders.{rising, list_less, same_numbers, sequence_below}
 use Rattle.road_walks.proofs.Locals.{and_both}
 use Rattle.road_walks.proofs.Sorted.{any_in, of_any, in_rising, of_rising, one_sorted, rising_sorted, below_self, below_on}
 
@@ -45,14 +45,14 @@ list_on (n ∷ ns) (m ∷ ms) (l ∷ ls) h k =
       ]
     ]
 
-pub sequence_never : (s : List ℕ × ℕ) → sequence_less s s ≡ true → ⊥
+pub sequence_never : (s : List ℕ × ℕ) → sequence_below s s ≡ true → ⊥
 sequence_never s h =
     elim (or_cases (list_less s.0 s.0) (same_numbers s.0 s.0 && nat_lt s.1 s.1) h) [
       | inl low ↦ list_never s.0 low
       | inr later ↦ below_self s.1 ((and_parts (same_numbers s.0 s.0) (nat_lt s.1 s.1) later).1)
     ]
 
-pub sequence_on : (s t u : List ℕ × ℕ) → sequence_less s t ≡ true → sequence_less t u ≡ true → sequence_less s u ≡ true
+pub sequence_on : (s t u : List ℕ × ℕ) → sequence_below s t ≡ true → sequence_below t u ≡ true → sequence_below s u ≡ true
 sequence_on s t u h k =
     elim (or_cases (list_less s.0 t.0) (same_numbers s.0 t.0 && nat_lt s.1 t.1) h) [
       | inl low ↦ elim (or_cases (list_less t.0 u.0) (same_numbers t.0 u.0 && nat_lt t.1 u.1) k) [
