@@ -1,6 +1,6 @@
 -- A hub of four streets: nodes 1 to 4 with an edge to node 5 and one back, each of 10 centimetres. The mask of the edge
 -- from node 1 forbids a vehicle to go on to node 2, whose edge has the local index 1.
-use Rattle.std.proofs.Common.{◌≡◌, ℕ, ◌+◌, pos, List, [], ◌∷◌, refl, arith, lit≤}
+use Rattle.std.proofs.Common.{◌≡◌, ℕ, ◌+◌, pos, [], ◌∷◌, refl, arith, lit≤}
 use Rattle.std.specs.List.{Contains}
 use Rattle.std.proofs.lemmas.List.Elements.{All-cons, All-nil, All-contains}
 use Rattle.std.specs.Prelude.{All}
