@@ -13,11 +13,11 @@ use Rattle.road_pieces.specs.Matches.{IsPattern}
 use Rattle.road_pieces.proofs.Members.{in_right, IsIn, in_from_among, among_from_in}
 use Rattle.road_walks.specs.Masks.{in_mask}
 use Rattle.road_walks.specs.BaseEdges.{FormatNumbers, directed_pieces, reverse_of, local_index, is_same, IsMaskBit, IsFlagged}
-use Rattle.folder_spec.specs.Chains.{IsEdge, piece_level}
+use Rattle.folder_spec.specs.Chains.{IsLevelEdge, piece_level}
 use Rattle.road_pieces.specs.Among.{Once}
 use Rattle.road_walks.proofs.Locals.{and_both, same_itself, same_only, in_directed, in_filter}
 use Rattle.road_walks.proofs.Sorted.{of_filter, any_in, of_any, once_filter}
-use Rattle.folder_spec.specs.Rows.{tells, keeps_piece, kept_at, edges_at, has_bit, sequence_patterns, is_flagged}
+use Rattle.folder_spec.specs.Rows.{tells, keeps_piece, kept_at, level_edges_at, has_bit, sequence_patterns, is_flagged}
 use Rattle.folder_spec.specs.FolderLaws.{AreBase, AreRoads, BaseGivesRoads}
 use Rattle.folder_spec.proofs.RowsLaw.{not_true, from_false, some_number, number_some}
 use Rattle.folder_spec.proofs.Passable.{contractible_on, contractible_back}
@@ -31,22 +31,22 @@ of_stands : {E : Type 0} (ps : List E) (q : E) → Stands (q ∷ []) ps → IsIn
 of_stands ps q (before, after, is) = subst (λ l. IsIn l q) (sym is) (in_right before (q ∷ after) q (inl refl))
 
 module _ (x : Extract) (asked : ℕ) (numbers : FormatNumbers) (all : List (List DirectedPiece × ℕ)) (tile_of : ℕ → ℤ → ℕ) (base : AreBase x asked all tile_of) where
-  of_kept : (k : ℕ) (p : DirectedPiece) → IsIn (kept_at x asked numbers all tile_of k) p → IsEdge x asked k p
+  of_kept : (k : ℕ) (p : DirectedPiece) → IsIn (kept_at x asked numbers all tile_of k) p → IsLevelEdge x asked k p
   of_kept k p h =
       let (there, passes) = of_filter (λ q. keeps_piece x asked numbers all tile_of q && nat_eq (piece_level x q) k) (directed_pieces x) p h in
       let (keep, level) = and_parts (keeps_piece x asked numbers all tile_of p) (nat_eq (piece_level x p) k) passes in
       record { kept = record { exists = base.pieces_are p (among_from_in (directed_pieces x) p there); kept = some_number _ keep }; level_is = eqb-true (piece_level x p) k level }
 
-  in_kept : (k : ℕ) (p : DirectedPiece) → IsEdge x asked k p → IsIn (kept_at x asked numbers all tile_of k) p
+  in_kept : (k : ℕ) (p : DirectedPiece) → IsLevelEdge x asked k p → IsIn (kept_at x asked numbers all tile_of k) p
   in_kept k p is =
       in_filter (λ q. keeps_piece x asked numbers all tile_of q && nat_eq (piece_level x q) k) (directed_pieces x) p (in_directed x p is.kept.exists) (and_both _ _ (number_some _ is.kept.kept) (eq-eqb (piece_level x p) k is.level_is))
 
-  of_edges : (k : ℕ) (n : ℤ) (p : DirectedPiece) → IsIn (edges_at x asked numbers all tile_of k n) p → IsEdge x asked k p × (piece_start x p ≡ n)
+  of_edges : (k : ℕ) (n : ℤ) (p : DirectedPiece) → IsIn (level_edges_at x asked numbers all tile_of k n) p → IsLevelEdge x asked k p × (piece_start x p ≡ n)
   of_edges k n p h =
       let (there, passes) = of_filter (λ q. int_eq (piece_start x q) n) (kept_at x asked numbers all tile_of k) p h in
       (of_kept k p there, (signed_Decides (piece_start x p) n).0 passes)
 
-  in_edges : (k : ℕ) (n : ℤ) (p : DirectedPiece) → IsEdge x asked k p → piece_start x p ≡ n → IsIn (edges_at x asked numbers all tile_of k n) p
+  in_edges : (k : ℕ) (n : ℤ) (p : DirectedPiece) → IsLevelEdge x asked k p → piece_start x p ≡ n → IsIn (level_edges_at x asked numbers all tile_of k n) p
   in_edges k n p is starts =
       in_filter (λ q. int_eq (piece_start x q) n) (kept_at x asked numbers all tile_of k) p (in_kept k p is) ((signed_Decides (piece_start x p) n).1 starts)
 
@@ -106,10 +106,10 @@ module _ (x : Extract) (asked : ℕ) (numbers : FormatNumbers) (all : List (List
         | inr here ↦ any_in (is_either p) f.pattern (reverse_of p) (of_stands f.pattern (reverse_of p) here) (Rattle.std.proofs.lemmas.Bool.or_right _ _ (same_itself (reverse_of p)))
       ])
 
-  edges_are : (k : ℕ) (n : ℤ) (p : DirectedPiece) → IsIn (edges_at x asked numbers all tile_of k n) p ↔ (IsEdge x asked k p × (piece_start x p ≡ n))
+  edges_are : (k : ℕ) (n : ℤ) (p : DirectedPiece) → IsIn (level_edges_at x asked numbers all tile_of k n) p ↔ (IsLevelEdge x asked k p × (piece_start x p ≡ n))
   edges_are k n p = (λ h. of_edges k n p h, λ (is, starts). in_edges k n p is starts)
 
-  edges_once : (k : ℕ) (n : ℤ) → Once (edges_at x asked numbers all tile_of k n)
+  edges_once : (k : ℕ) (n : ℤ) → Once (level_edges_at x asked numbers all tile_of k n)
   edges_once k n = once_filter (λ p. int_eq (piece_start x p) n) (kept_at x asked numbers all tile_of k) (once_filter (λ p. keeps_piece x asked numbers all tile_of p && nat_eq (piece_level x p) k) (directed_pieces x) base.pieces_once)
 
   bits_are : (e : DirectedPiece) (i : ℕ) → i < numbers.bits → (has_bit x asked numbers all tile_of e i ≡ true) ↔ IsMaskBit x numbers e i

@@ -6,17 +6,17 @@ use Rattle.std.proofs.lemmas.List.Elements.{All-cons, All-nil}
 use Rattle.osm_model.specs.declared.extract.Extract.{Extract}
 use Rattle.road_pieces.specs.DirectedPiece.{DirectedPiece}
 use Rattle.road_pieces.specs.Paths.{Leads, Stands}
-use Rattle.road_pieces.specs.Modes.{HasMode}
+use Rattle.road_pieces.specs.Modes.{ShareMode}
 use Rattle.road_pieces.specs.Rules.{Uses, Passes}
 use Rattle.road_pieces.specs.Pieces.{piece_start, piece_end}
 use Rattle.road_pieces.specs.Walks.{MayRide}
 use Rattle.road_walks.proofs.Reverses.{turned_twice, back_starts, kept_back}
-use Rattle.folder_spec.specs.Links.{last_of}
+use Rattle.folder_spec.specs.Links.{last_edge_of}
 use Rattle.road_walks.specs.BaseEdges.{FormatNumbers, reverse_of, local_index, IsMaskBit, IsFlagged}
-use Rattle.folder_spec.specs.Chains.{access_of, IsEdge, IsContractible, GoesThrough}
+use Rattle.folder_spec.specs.Chains.{access_of, IsLevelEdge, IsContractible, GoesThrough}
 use Rattle.road_walks.specs.EdgeWalks.{MayFollowOn}
 
-pub edge_back : (x : Extract) (asked level : ℕ) (p : DirectedPiece) → IsEdge x asked level p → IsEdge x asked level (reverse_of p)
+pub edge_back : (x : Extract) (asked level : ℕ) (p : DirectedPiece) → IsLevelEdge x asked level p → IsLevelEdge x asked level (reverse_of p)
 edge_back x asked level p is = record { kept = kept_back x asked p is.kept; level_is = is.level_is }
 
 flagged_back : (x : Extract) (numbers : FormatNumbers) (p : DirectedPiece) → IsFlagged x numbers p → IsFlagged x numbers (reverse_of p)
@@ -29,18 +29,18 @@ flagged_back x numbers p f = record {
 
 -- the modes that may use a piece are those of its access
 uses_alike : (x : Extract) (mode : ℕ) (p q : DirectedPiece) → access_of x p ≡ access_of x q → Uses x mode p.way p.forward → Uses x mode q.way q.forward
-uses_alike x mode p q same uses = subst (λ modes. HasMode modes mode) same uses
+uses_alike x mode p q same uses = subst (λ modes. ShareMode modes mode) same uses
 
 -- where a list that leads ends, and what is last in it
-pub leads_end : {N E : Type 0} (Is : E → Type 0) (start finish : E → N) (Next : E → E → Type 0) (p : E) (ps : List E) (a b : N) → Leads Is start finish Next a (p ∷ ps) b → finish (last_of p ps) ≡ b
+pub leads_end : {N E : Type 0} (Is : E → Type 0) (start finish : E → N) (Next : E → E → Type 0) (p : E) (ps : List E) (a b : N) → Leads Is start finish Next a (p ∷ ps) b → finish (last_edge_of p ps) ≡ b
 leads_end Is start finish Next p [] a b lead = lead.3
 leads_end Is start finish Next p (q ∷ ps) a b lead = leads_end Is start finish Next q ps (finish p) b lead.3
 
-pub last_is : {N E : Type 0} (Is : E → Type 0) (start finish : E → N) (Next : E → E → Type 0) (p : E) (ps : List E) (a b : N) → Leads Is start finish Next a (p ∷ ps) b → Is (last_of p ps)
+pub last_is : {N E : Type 0} (Is : E → Type 0) (start finish : E → N) (Next : E → E → Type 0) (p : E) (ps : List E) (a b : N) → Leads Is start finish Next a (p ∷ ps) b → Is (last_edge_of p ps)
 last_is Is start finish Next p [] a b lead = lead.0
 last_is Is start finish Next p (q ∷ ps) a b lead = last_is Is start finish Next q ps (finish p) b lead.3
 
-module _ (x : Extract) (asked : ℕ) (numbers : FormatNumbers) (mode : ℕ) (within : HasMode numbers.all mode) (level : ℕ) where
+module _ (x : Extract) (asked : ℕ) (numbers : FormatNumbers) (mode : ℕ) (within : ShareMode numbers.all mode) (level : ℕ) where
   record Through (p q : DirectedPiece) : Type 0 where
     access : access_of x p ≡ access_of x q
     passes : Passes x mode (piece_end x p)
@@ -60,7 +60,7 @@ module _ (x : Extract) (asked : ℕ) (numbers : FormatNumbers) (mode : ℕ) (wit
         after = λ f. nor (subst (IsFlagged x numbers) two f);
       }
 
-  through : (p q : DirectedPiece) → IsEdge x asked level p → IsEdge x asked level q → piece_start x q ≡ piece_end x p → GoesThrough x asked numbers level p q → Through p q
+  through : (p q : DirectedPiece) → IsLevelEdge x asked level p → IsLevelEdge x asked level q → piece_start x q ≡ piece_end x p → GoesThrough x asked numbers level p q → Through p q
   through p q is_p is_q begins g =
       let c : IsContractible x asked numbers level (piece_end x p) = g.inner in
       let passes : Passes x mode (piece_end x p) = c.open_to mode within in
@@ -76,12 +76,12 @@ module _ (x : Extract) (asked : ℕ) (numbers : FormatNumbers) (mode : ℕ) (wit
       ]
 
   abbrev ChainLead : ℤ → List DirectedPiece → ℤ → Type 0
-  ChainLead a ps b = Leads (IsEdge x asked level) (piece_start x) (piece_end x) (GoesThrough x asked numbers level) a ps b
+  ChainLead a ps b = Leads (IsLevelEdge x asked level) (piece_start x) (piece_end x) (GoesThrough x asked numbers level) a ps b
 
   abbrev RideLead : ℤ → List DirectedPiece → ℤ → Type 0
   RideLead a ps b = Leads (MayRide x asked mode) (piece_start x) (piece_end x) (MayFollowOn x numbers mode) a ps b
 
-  may_ride : (p : DirectedPiece) → IsEdge x asked level p → Uses x mode p.way p.forward → MayRide x asked mode p
+  may_ride : (p : DirectedPiece) → IsLevelEdge x asked level p → Uses x mode p.way p.forward → MayRide x asked mode p
   may_ride p is uses = record { exists = is.kept.exists; may = (is.kept.kept, uses) }
 
   pub rides : (ps : List DirectedPiece) (p : DirectedPiece) (a b : ℤ) → ChainLead a (p ∷ ps) b → Uses x mode p.way p.forward → RideLead a (p ∷ ps) b

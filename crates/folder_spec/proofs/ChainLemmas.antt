@@ -5,7 +5,7 @@ use Rattle.road_pieces.specs.DirectedPiece.{DirectedPiece}
 use Rattle.road_pieces.specs.Paths.{Follows, Leads}
 use Rattle.road_pieces.specs.Pieces.{piece_start, piece_end}
 use Rattle.road_walks.specs.BaseEdges.{FormatNumbers, reverse_of}
-use Rattle.folder_spec.specs.Chains.{IsEdge, IsContractible, GoesThrough}
+use Rattle.folder_spec.specs.Chains.{IsLevelEdge, IsContractible, GoesThrough}
 use Rattle.road_walks.proofs.Reverses.{turned_twice, back_starts}
 use Rattle.folder_spec.proofs.ChainFacts.{edge_back}
 
@@ -76,14 +76,14 @@ module _ (x : Extract) (asked : ℕ) (numbers : FormatNumbers) (level : ℕ) whe
   }
 
   abbrev pub ChainLead : ℤ → List DirectedPiece → ℤ → Type 0
-  ChainLead a ps b = Leads (IsEdge x asked level) (piece_start x) (piece_end x) (GoesThrough x asked numbers level) a ps b
+  ChainLead a ps b = Leads (IsLevelEdge x asked level) (piece_start x) (piece_end x) (GoesThrough x asked numbers level) a ps b
 
   pub chain_back : (ps : List DirectedPiece) (a b : ℤ) → ChainLead a ps b → ChainLead b (turn_back reverse_of ps) a
   chain_back ps a b lead =
-      leads_back (IsEdge x asked level) (piece_start x) (piece_end x) (GoesThrough x asked numbers level) reverse_of (edge_back x asked level) (back_starts x) back_ends through_back ps a b lead
+      leads_back (IsLevelEdge x asked level) (piece_start x) (piece_end x) (GoesThrough x asked numbers level) reverse_of (edge_back x asked level) (back_starts x) back_ends through_back ps a b lead
 
   -- the edge by which a chain goes on is the only one
-  pub one_on : (p q r : DirectedPiece) → IsEdge x asked level p → IsEdge x asked level q → IsEdge x asked level r → piece_start x q ≡ piece_end x p → piece_start x r ≡ piece_end x p → GoesThrough x asked numbers level p q → GoesThrough x asked numbers level p r → q ≡ r
+  pub one_on : (p q r : DirectedPiece) → IsLevelEdge x asked level p → IsLevelEdge x asked level q → IsLevelEdge x asked level r → piece_start x q ≡ piece_end x p → piece_start x r ≡ piece_end x p → GoesThrough x asked numbers level p q → GoesThrough x asked numbers level p r → q ≡ r
   one_on p q r is_p is_q is_r at_q at_r g h =
       let c : IsContractible x asked numbers level (piece_end x p) = g.inner in
       elim (c.only q is_q at_q) [

@@ -7,11 +7,11 @@ use Rattle.std.proofs.lemmas.Grind.{flat_map-append}
 use Rattle.osm_model.specs.declared.extract.Extract.{Extract}
 use Rattle.road_pieces.specs.DirectedPiece.{DirectedPiece}
 use Rattle.folder_spec.specs.Links.{Link}
-use Rattle.road_walks.specs.BaseEdges.{FormatNumbers, IsKept}
+use Rattle.road_walks.specs.BaseEdges.{FormatNumbers, IsKeptPiece}
 use Rattle.folder_spec.specs.FolderWalks.{from_node, link_level}
 use Rattle.tile_graph.specs.Graphs.{GraphSequence}
 use Rattle.road_pieces.specs.Among.{Among, Once}
-use Rattle.folder_spec.specs.Tables.{first_index, NodeRow, TileRows, Table, same_link, is_node, tile_at, node_at, links_of, node_id, link_id, edge_row, node_row, sequence_row, graph_of, IsRowOf, IsTable}
+use Rattle.folder_spec.specs.Tables.{first_index, NodeRow, TileRows, RowTable, same_link, is_node, tile_at, node_row_at, links_of, node_graph_id, link_graph_id, edge_row, node_row, sequence_row, graph_of, IsRowOf, IsExtractTable}
 use Rattle.graph_id.specs.GraphId.{value_of}
 use Rattle.std.specs.Prelude.{filter}
 use Rattle.std.proofs.lemmas.Bool.{eq-eqb}
@@ -20,12 +20,12 @@ use Rattle.road_pieces.specs.Pieces.{piece_start}
 use Rattle.road_pieces.proofs.Members.{IsIn, in_flat, of_flat, in_map, of_map, in_from_among, among_from_in}
 use Rattle.folder_spec.specs.Chains.{HasNode, piece_level}
 use Rattle.road_walks.proofs.Locals.{and_both, in_filter}
-use Rattle.road_walks.specs.Orders.{rising, sequence_less}
+use Rattle.road_walks.specs.Orders.{rising, sequence_below}
 use Rattle.road_walks.proofs.Sorted.{of_filter, in_rising, of_rising, sequences_connected}
 use Rattle.folder_spec.proofs.TableLaw.{tile_is, row_is, link_itself, link_only}
 use Rattle.folder_spec.proofs.Places.{part_at}
 use Rattle.tile_graph.specs.Tiles.{TileFields, edge_under, edges_under, slice, node_under, nodes_under, sequence_under, graph_of_tiles}
-use Rattle.folder_spec.specs.Records.{ToldFields, edge_fields, transitions_of, node_fields, node_records, sequence_of, starts_in, tile_from}
+use Rattle.folder_spec.specs.Records.{ToldFields, edge_fields, transitions_of, node_fields, node_records, sequence_row_of, starts_in, tile_from}
 use Rattle.folder_spec.specs.FolderLaws.{IsOrdered, SameGraph}
 use Rattle.tile_graph.specs.Alike.{AreAlike}
 
@@ -65,18 +65,18 @@ behind before after e = sym (append_assoc before (e ∷ []) after)
 one_more : {E : Type 0} (before : List E) (e : E) → length (before ++ e ∷ []) ≡ suc (length before)
 one_more before e = length-append before (e ∷ []) ∙ omega arith
 
-module _ (x : Extract) (asked : ℕ) (numbers : FormatNumbers) (tile_of : ℕ → ℤ → ℕ) (t : Table) (told : ToldFields) (table : IsTable x asked numbers tile_of t) (ordered : IsOrdered tile_of t) where
+module _ (x : Extract) (asked : ℕ) (numbers : FormatNumbers) (tile_of : ℕ → ℤ → ℕ) (t : RowTable) (told : ToldFields) (table : IsExtractTable x asked numbers tile_of t) (ordered : IsOrdered tile_of t) where
   module _ (rows : TileRows) (there : Among t.tiles rows) where
     abbrev here : TileFields
     here = tile_from x told t tile_of rows
 
     -- the number of a link is its place among the links of its tile
-    link_id_is : (before after : List (Link DirectedPiece)) (l : Link DirectedPiece) (r : NodeRow) → links_of rows ≡ before ++ l ∷ after → Among rows.nodes r → Among r.links l → link_id x t tile_of l ≡ value_of rows.level rows.tile (length before)
+    link_id_is : (before after : List (Link DirectedPiece)) (l : Link DirectedPiece) (r : NodeRow) → links_of rows ≡ before ++ l ∷ after → Among rows.nodes r → Among r.links l → link_graph_id x t tile_of l ≡ value_of rows.level rows.tile (length before)
     link_id_is before after l r is among inside =
         let (exists, (from, level)) = (table.links_are rows r there among l).0 inside in
         let tile : tile_of (link_level x l) (from_node x l) ≡ rows.tile =
         (λ i. tile_of (level i) (from i)) ∙ sym (ordered.tile_is rows r there among) in
-        let first : link_id x t tile_of l ≡ value_of rows.level rows.tile (first_index (same_link l) (links_of (tile_at t rows.level rows.tile))) =
+        let first : link_graph_id x t tile_of l ≡ value_of rows.level rows.tile (first_index (same_link l) (links_of (tile_at t rows.level rows.tile))) =
         λ i. value_of (level i) (tile i) (first_index (same_link l) (links_of (tile_at t (level i) (tile i)))) in
         let once : Once (before ++ l ∷ after) = subst Once is (ordered.links_once rows there) in
         first
@@ -84,10 +84,10 @@ module _ (x : Extract) (asked : ℕ) (numbers : FormatNumbers) (tile_of : ℕ �
         ∙ (ap (λ ls. value_of rows.level rows.tile (first_index (same_link l) ls)) is
         ∙ ap (value_of rows.level rows.tile) (spot_behind (same_link l) before after l (λ f h p. not_before before after l once (subst (Among before) (sym (link_only l f p)) h)) (link_itself l))))
 
-    node_id_is : (before after : List NodeRow) (r : NodeRow) → rows.nodes ≡ before ++ r ∷ after → Among rows.nodes r → node_id t tile_of r.osm rows.level ≡ value_of rows.level rows.tile (length before)
+    node_id_is : (before after : List NodeRow) (r : NodeRow) → rows.nodes ≡ before ++ r ∷ after → Among rows.nodes r → node_graph_id t tile_of r.osm rows.level ≡ value_of rows.level rows.tile (length before)
     node_id_is before after r is among =
         let tile : tile_of rows.level r.osm ≡ rows.tile = sym (ordered.tile_is rows r there among) in
-        let first : node_id t tile_of r.osm rows.level ≡ value_of rows.level rows.tile (first_index (is_node r.osm) (tile_at t rows.level rows.tile).nodes) =
+        let first : node_graph_id t tile_of r.osm rows.level ≡ value_of rows.level rows.tile (first_index (is_node r.osm) (tile_at t rows.level rows.tile).nodes) =
         λ i. value_of rows.level (tile i) (first_index (is_node r.osm) (tile_at t rows.level (tile i)).nodes) in
         let once : Once (map (λ s. s.osm) before ++ r.osm ∷ map (λ s. s.osm) after) =
         subst Once (ap (map (λ s. s.osm)) is ∙ map-append (λ s. s.osm) before (r ∷ after)) (ordered.nodes_once rows there) in
@@ -100,7 +100,7 @@ module _ (x : Extract) (asked : ℕ) (numbers : FormatNumbers) (tile_of : ℕ �
     edges_are : (r : NodeRow) → Among rows.nodes r → (before ls after : List (Link DirectedPiece)) → links_of rows ≡ before ++ (ls ++ after) → ((l : Link DirectedPiece) → Among ls l → Among r.links l) → (place : ℕ) → place ≡ length before → edges_under rows.level rows.tile place (map (edge_fields x told t tile_of rows) ls) ≡ map (edge_row x t tile_of) ls
     edges_are r among before [] after is within place at = refl
     edges_are r among before (l ∷ ls) after is within place at =
-        let id : value_of rows.level rows.tile place ≡ link_id x t tile_of l =
+        let id : value_of rows.level rows.tile place ≡ link_graph_id x t tile_of l =
         ap (value_of rows.level rows.tile) at ∙ sym (link_id_is before (ls ++ after) l r is among (within l (inl refl))) in
         let rest : edges_under rows.level rows.tile (suc place) (map (edge_fields x told t tile_of rows) ls) ≡ map (edge_row x t tile_of) ls =
         edges_are r among (before ++ l ∷ []) ls after (is ∙ behind before (ls ++ after) l) (λ m h. within m (inr h)) (suc place) (ap suc at ∙ sym (one_more before l)) in
@@ -117,11 +117,11 @@ module _ (x : Extract) (asked : ℕ) (numbers : FormatNumbers) (tile_of : ℕ �
         ap (λ n. slice n (length r.links) (links_of rows)) at ∙ (ap (λ ns. slice (length (flat_map (λ s. s.links) before)) (length r.links) (flat_map (λ s. s.links) ns)) is ∙ part_at (λ s. s.links) before after r) in
         let cut : slice edges (length r.links) here.edges ≡ map (edge_fields x told t tile_of rows) r.links =
         ap (take (length r.links)) (drop-map (edge_fields x told t tile_of rows) edges (links_of rows)) ∙ (take-map (edge_fields x told t tile_of rows) (length r.links) (drop edges (links_of rows)) ∙ ap (map (edge_fields x told t tile_of rows)) part) in
-        let its : edges_under rows.level rows.tile edges (slice edges (length r.links) here.edges) ≡ map (edge_row x t tile_of) (node_at t tile_of r.osm rows.level).links =
+        let its : edges_under rows.level rows.tile edges (slice edges (length r.links) here.edges) ≡ map (edge_row x t tile_of) (node_row_at t tile_of r.osm rows.level).links =
         ap (edges_under rows.level rows.tile edges) cut ∙ (edges_are r among (flat_map (λ s. s.links) before) r.links (flat_map (λ s. s.links) after) whole (λ l h. h) edges at ∙ ap (λ s. map (edge_row x t tile_of) s.links) (sym (row_is x asked numbers tile_of t table r.osm rows.level row))) in
-        let onward : slice transitions (length (transitions_of x told t tile_of r)) here.transitions ≡ map (node_id t tile_of r.osm) (node_at t tile_of r.osm rows.level).levels =
-        ap (λ n. slice n (length (transitions_of x told t tile_of r)) here.transitions) shift ∙ (ap (λ ns. slice (length (flat_map (transitions_of x told t tile_of) before)) (length (transitions_of x told t tile_of r)) (flat_map (transitions_of x told t tile_of) ns)) is ∙ (part_at (transitions_of x told t tile_of) before after r ∙ ap (λ s. map (node_id t tile_of r.osm) s.levels) (sym (row_is x asked numbers tile_of t table r.osm rows.level row)))) in
-        let id : value_of rows.level rows.tile (length before) ≡ node_id t tile_of r.osm rows.level = sym (node_id_is before after r is among) in
+        let onward : slice transitions (length (transitions_of x told t tile_of r)) here.transitions ≡ map (node_graph_id t tile_of r.osm) (node_row_at t tile_of r.osm rows.level).levels =
+        ap (λ n. slice n (length (transitions_of x told t tile_of r)) here.transitions) shift ∙ (ap (λ ns. slice (length (flat_map (transitions_of x told t tile_of) before)) (length (transitions_of x told t tile_of r)) (flat_map (transitions_of x told t tile_of) ns)) is ∙ (part_at (transitions_of x told t tile_of) before after r ∙ ap (λ s. map (node_graph_id t tile_of r.osm) s.levels) (sym (row_is x asked numbers tile_of t table r.osm rows.level row)))) in
+        let id : value_of rows.level rows.tile (length before) ≡ node_graph_id t tile_of r.osm rows.level = sym (node_id_is before after r is among) in
         λ i. record { id = id i; osm = r.osm; access = Rattle.road_pieces.specs.Rules.node_access (Rattle.road_pieces.specs.Rules.node_tags x r.osm); edges = its i; transitions = onward i }
 
     nodes_are : (before after : List NodeRow) (place edges transitions : ℕ) → rows.nodes ≡ before ++ after → place ≡ length before → edges ≡ length (flat_map (λ s. s.links) before) → transitions ≡ length (flat_map (transitions_of x told t tile_of) before) → nodes_under here place (node_records x told t tile_of edges transitions after) ≡ map (λ r. node_row x t tile_of r.osm rows.level) after
@@ -147,32 +147,32 @@ module _ (x : Extract) (asked : ℕ) (numbers : FormatNumbers) (tile_of : ℕ �
   seq_level ((p ∷ ps), modes) h =
       let w = (table.sequences_are (p ∷ ps) modes).0 h in
       let has : HasNode x asked (piece_start x p) (piece_level x p) =
-      record { piece = p; is = record { kept = All-head (IsKept x asked) p ps w.kept; level_is = refl }; starts = refl } in
+      record { piece = p; is = record { kept = All-head (IsKeptPiece x asked) p ps w.kept; level_is = refl }; starts = refl } in
       let row : IsRowOf t tile_of (piece_start x p) (piece_level x p) = table.node_there (piece_start x p) (piece_level x p) has in
       (row.rows, (row.there, and_both _ _ (eq-eqb (piece_level x p) row.rows.level (sym row.level_is)) (eq-eqb (tile_of (piece_level x p) (piece_start x p)) row.rows.tile (sym row.tile_is))))
 
   abbrev Ids : List (List DirectedPiece × ℕ) → List (List ℕ × ℕ)
-  Ids all = map (sequence_of x told t tile_of) all
+  Ids all = map (sequence_row_of x told t tile_of) all
 
   abbrev Put : TileRows → List (List ℕ × ℕ)
-  Put rows = rising sequence_less (Ids (filter (starts_in x told t tile_of rows) t.sequences))
+  Put rows = rising sequence_below (Ids (filter (starts_in x told t tile_of rows) t.sequences))
 
   sequence_there : (g : GraphSequence) → IsIn (graph_of x t tile_of).sequences g → IsIn (graph_of_tiles (map (tile_from x told t tile_of) t.tiles)).sequences g
   sequence_there g h =
       let (s, (inside, same)) = of_map (sequence_row x t tile_of) t.sequences g h in
       let (rows, (there, starts)) = seq_level s (among_from_in t.sequences s inside) in
       let kept : IsIn (filter (starts_in x told t tile_of rows) t.sequences) s = in_filter (starts_in x told t tile_of rows) t.sequences s inside starts in
-      let put_in : IsIn (Put rows) (sequence_of x told t tile_of s) =
-      in_rising sequence_less sequences_connected (Ids (filter (starts_in x told t tile_of rows) t.sequences)) (sequence_of x told t tile_of s) (in_map (sequence_of x told t tile_of) (filter (starts_in x told t tile_of rows) t.sequences) s kept) in
+      let put_in : IsIn (Put rows) (sequence_row_of x told t tile_of s) =
+      in_rising sequence_below sequences_connected (Ids (filter (starts_in x told t tile_of rows) t.sequences)) (sequence_row_of x told t tile_of s) (in_map (sequence_row_of x told t tile_of) (filter (starts_in x told t tile_of rows) t.sequences) s kept) in
       subst (IsIn (graph_of_tiles (map (tile_from x told t tile_of) t.tiles)).sequences) same
-      (in_flat (λ tile. map sequence_under tile.sequences) (map (tile_from x told t tile_of) t.tiles) (tile_from x told t tile_of rows) (sequence_row x t tile_of s) (in_map (tile_from x told t tile_of) t.tiles rows (in_from_among t.tiles rows there)) (in_map sequence_under (Put rows) (sequence_of x told t tile_of s) put_in))
+      (in_flat (λ tile. map sequence_under tile.sequences) (map (tile_from x told t tile_of) t.tiles) (tile_from x told t tile_of rows) (sequence_row x t tile_of s) (in_map (tile_from x told t tile_of) t.tiles rows (in_from_among t.tiles rows there)) (in_map sequence_under (Put rows) (sequence_row_of x told t tile_of s) put_in))
 
   sequence_only : (g : GraphSequence) → IsIn (graph_of_tiles (map (tile_from x told t tile_of) t.tiles)).sequences g → IsIn (graph_of x t tile_of).sequences g
   sequence_only g h =
       let (tile, (there, inside)) = of_flat (λ tile. map sequence_under tile.sequences) (map (tile_from x told t tile_of) t.tiles) g h in
       let (rows, (among, from)) = of_map (tile_from x told t tile_of) t.tiles tile there in
       let (ids, (put_in, same)) = of_map sequence_under (Put rows) g (subst (λ tile. IsIn (map sequence_under tile.sequences) g) (sym from) inside) in
-      let (s, (kept, is)) = of_map (sequence_of x told t tile_of) (filter (starts_in x told t tile_of rows) t.sequences) ids (of_rising sequence_less sequences_connected (Ids (filter (starts_in x told t tile_of rows) t.sequences)) ids put_in) in
+      let (s, (kept, is)) = of_map (sequence_row_of x told t tile_of) (filter (starts_in x told t tile_of rows) t.sequences) ids (of_rising sequence_below sequences_connected (Ids (filter (starts_in x told t tile_of rows) t.sequences)) ids put_in) in
       let (whole, starts) = of_filter (starts_in x told t tile_of rows) t.sequences s kept in
       subst (IsIn (graph_of x t tile_of).sequences) (ap sequence_under is ∙ same) (in_map (sequence_row x t tile_of) t.sequences s whole)
 

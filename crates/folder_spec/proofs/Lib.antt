@@ -17,4 +17,6 @@ pub mod BaseRoads
 pub mod TilesLow
 pub mod FolderAgree
 pub mod Headline
+pub mod OneFolder
 pub mod WorkedRows
+pub mod WorkedTurns

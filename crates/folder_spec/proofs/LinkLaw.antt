@@ -6,7 +6,7 @@ use Rattle.std.proofs.lemmas.List.Elements.{All-head, All-tail}
 use Rattle.std.proofs.lemmas.List.Sums.{sum_by-append, sum_by-cons}
 use Rattle.std.proofs.lemmas.Grind.{flat_map-append}
 use Rattle.road_pieces.specs.Paths.{Follows, Leads, Stands}
-use Rattle.folder_spec.specs.Links.{Link, base_link, edges_of, last_of, last_edge}
+use Rattle.folder_spec.specs.Links.{Link, base_link, edges_of, last_edge_of, last_edge}
 use Rattle.road_pieces.proofs.Lists.{same_head, same_tail, not_nil, all_back, stands_more, split_at}
 
 -- the base edges of links
@@ -43,7 +43,7 @@ module _
   abbrev LinkLead : N → List (Link P) → N → Type 0
   LinkLead a ls b = Leads IsLink link_start link_end LinkNext a ls b
 
-  lead_on : (p : P) (qs rest : List P) (a b : N) → EdgeLead a (p ∷ qs) (finish (last_of p qs)) → Follows Next (last_of p qs) rest → EdgeLead (finish (last_of p qs)) rest b → EdgeLead a (p ∷ (qs ++ rest)) b
+  lead_on : (p : P) (qs rest : List P) (a b : N) → EdgeLead a (p ∷ qs) (finish (last_edge_of p qs)) → Follows Next (last_edge_of p qs) rest → EdgeLead (finish (last_edge_of p qs)) rest b → EdgeLead a (p ∷ (qs ++ rest)) b
   lead_on p [] rest a b (is, begins, any, lead) follows after = (is, begins, follows, after)
   lead_on p (q ∷ qs) rest a b (is, begins, follows, lead) after more =
       (is, begins, follows, lead_on q qs rest (finish p) b lead after more)

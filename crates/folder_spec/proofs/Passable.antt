@@ -9,17 +9,17 @@ use Rattle.std.proofs.lemmas.Nat.Bits.{same_from_bits, bit_at_and, shr_and_one}
 use Rattle.std.proofs.lemmas.Bool.{both_ways, and_parts, eqb-true, eq-eqb, ltb-true, lt-ltb}
 use Rattle.osm_model.specs.declared.extract.Extract.{Extract}
 use Rattle.road_pieces.specs.DirectedPiece.{DirectedPiece}
-use Rattle.road_pieces.specs.Modes.{HasMode}
+use Rattle.road_pieces.specs.Modes.{ShareMode}
 use Rattle.road_pieces.specs.Rules.{names_of, way_tags, node_access, node_tags}
 use Rattle.road_pieces.specs.Pieces.{piece_start, piece_end}
 use Rattle.road_pieces.proofs.Members.{IsIn}
 use Rattle.road_walks.specs.BaseEdges.{FormatNumbers, reverse_of, local_index, is_same, IsMaskBit, IsFlagged}
-use Rattle.folder_spec.specs.Chains.{access_of, piece_class, IsEdge, IsContractible}
+use Rattle.folder_spec.specs.Chains.{access_of, piece_class, IsLevelEdge, IsContractible}
 use Rattle.road_pieces.specs.Among.{Once}
 use Rattle.road_walks.proofs.Locals.{and_both}
 use Rattle.road_walks.proofs.Reverses.{turned_twice}
 use Rattle.road_walks.specs.Orders.{same_numbers, same_texts}
-use Rattle.folder_spec.specs.Rows.{edges_at, has_bit, is_flagged, is_masked, are_alike, are_two, is_contractible}
+use Rattle.folder_spec.specs.Rows.{level_edges_at, has_bit, is_flagged, is_masked, are_alike, are_two, is_contractible}
 use Rattle.road_walks.proofs.Sorted.{same_self}
 use Rattle.folder_spec.proofs.RowsLaw.{not_true, nodes_apart, apart_nodes, pieces_apart, apart_pieces}
 
@@ -52,7 +52,7 @@ bit_set n i =
     let by = bit_set_by_shift n i in
     (λ h. by.0 (shr_and_one n i ∙ h), λ h. sym (shr_and_one n i) ∙ by.1 h)
 
-within_on : (a b : ℕ) → bit_and a b ≡ a → (m : ℕ) → HasMode a m → HasMode b m
+within_on : (a b : ℕ) → bit_and a b ≡ a → (m : ℕ) → ShareMode a m → ShareMode b m
 within_on a b same m has none =
     has (ap (λ n. bit_and n m) (sym same) ∙ (and_assoc m a b ∙ (ap (bit_and a) none ∙ and_zero_r a)))
 
@@ -64,7 +64,7 @@ one_bit_least (suc (suc s)) t h k on = absurd (omega (arith, h))
 bit_low : (n i : ℕ) → bit_at n i < 2
 bit_low n i = omega arith
 
-within_back : (a b : ℕ) → ((m : ℕ) → HasMode a m → HasMode b m) → bit_and a b ≡ a
+within_back : (a b : ℕ) → ((m : ℕ) → ShareMode a m → ShareMode b m) → bit_and a b ≡ a
 within_back a b within =
     same_from_bits (bit_and a b) a (λ i. bit_at_and a b i ∙ one_bit_least (bit_at a i) (bit_at b i) (bit_low a i) (bit_low b i) (λ h. (bit_set b i).1 (within (2 ^ i) ((bit_set a i).0 h))))
 
@@ -112,8 +112,8 @@ false_of false h = refl
 
 module _
     (x : Extract) (asked : ℕ) (numbers : FormatNumbers) (all : List (List DirectedPiece × ℕ)) (tile_of : ℕ → ℤ → ℕ)
-    (edges_are : (k : ℕ) (n : ℤ) (p : DirectedPiece) → IsIn (edges_at x asked numbers all tile_of k n) p ↔ (IsEdge x asked k p × (piece_start x p ≡ n)))
-    (edges_once : (k : ℕ) (n : ℤ) → Once (edges_at x asked numbers all tile_of k n))
+    (edges_are : (k : ℕ) (n : ℤ) (p : DirectedPiece) → IsIn (level_edges_at x asked numbers all tile_of k n) p ↔ (IsLevelEdge x asked k p × (piece_start x p ≡ n)))
+    (edges_once : (k : ℕ) (n : ℤ) → Once (level_edges_at x asked numbers all tile_of k n))
     (bits_are : (e : DirectedPiece) (i : ℕ) → i < numbers.bits → (has_bit x asked numbers all tile_of e i ≡ true) ↔ IsMaskBit x numbers e i)
     (flags_are : (p : DirectedPiece) → (is_flagged x asked numbers all tile_of p ≡ true) ↔ IsFlagged x numbers p) where
   masked_on : (e f : DirectedPiece) → is_masked x asked numbers all tile_of e f ≡ true → IsMaskBit x numbers e (local_index x f)
@@ -124,7 +124,7 @@ module _
   masked_back : (e f : DirectedPiece) → IsMaskBit x numbers e (local_index x f) → is_masked x asked numbers all tile_of e f ≡ true
   masked_back e f m = and_both _ _ (lt-ltb (local_index x f) numbers.bits m.low) ((bits_are e (local_index x f) m.low).1 m)
 
-  alike_on : (k : ℕ) (n : ℤ) (p q : DirectedPiece) → edges_at x asked numbers all tile_of k n ≡ p ∷ (q ∷ []) → are_alike x asked numbers all tile_of n p q ≡ true → IsContractible x asked numbers k n
+  alike_on : (k : ℕ) (n : ℤ) (p q : DirectedPiece) → level_edges_at x asked numbers all tile_of k n ≡ p ∷ (q ∷ []) → are_alike x asked numbers all tile_of n p q ≡ true → IsContractible x asked numbers k n
   alike_on k n p q is h0 =
       let (two, h1) = and_parts (not (is_same p q)) _ h0 in
       let (pieces, h2) = and_parts (not (is_same (reverse_of p) q)) _ h1 in
@@ -209,9 +209,9 @@ module _
   }
 
   pub contractible_on : (k : ℕ) (n : ℤ) → is_contractible x asked numbers all tile_of k n ≡ true → IsContractible x asked numbers k n
-  contractible_on k n h = by (edges_at x asked numbers all tile_of k n) refl h
+  contractible_on k n h = by (level_edges_at x asked numbers all tile_of k n) refl h
     where
-      by : (ps : List DirectedPiece) → edges_at x asked numbers all tile_of k n ≡ ps → are_two x asked numbers all tile_of n ps ≡ true → IsContractible x asked numbers k n
+      by : (ps : List DirectedPiece) → level_edges_at x asked numbers all tile_of k n ≡ ps → are_two x asked numbers all tile_of n ps ≡ true → IsContractible x asked numbers k n
       by [] is h = absurd (both_ways false refl h)
       by (p ∷ []) is h = absurd (both_ways false refl h)
       by (p ∷ (q ∷ (r ∷ rs))) is h = absurd (both_ways false refl h)
@@ -219,7 +219,7 @@ module _
 
   pub contractible_back : (k : ℕ) (n : ℤ) → IsContractible x asked numbers k n → is_contractible x asked numbers all tile_of k n ≡ true
   contractible_back k n c =
-      elim (two_of (edges_at x asked numbers all tile_of k n) c.first c.second (edges_once k n) c.two ((edges_are k n c.first).1 (c.first_is, c.first_starts)) ((edges_are k n c.second).1 (c.second_is, c.second_starts)) (λ e h. let edge = (edges_are k n e).0 h in c.only e edge.0 edge.1)) [
+      elim (two_of (level_edges_at x asked numbers all tile_of k n) c.first c.second (edges_once k n) c.two ((edges_are k n c.first).1 (c.first_is, c.first_starts)) ((edges_are k n c.second).1 (c.second_is, c.second_starts)) (λ e h. let edge = (edges_are k n e).0 h in c.only e edge.0 edge.1)) [
         | inl is ↦ ap (are_two x asked numbers all tile_of n) is ∙ alike_back k n c
         | inr is ↦ ap (are_two x asked numbers all tile_of n) is ∙ alike_back k n (swapped k n c)
       ]

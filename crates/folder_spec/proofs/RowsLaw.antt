@@ -14,19 +14,19 @@ use Rattle.road_pieces.specs.Pieces.{IsPiece, piece_start, piece_end}
 use Rattle.road_pieces.specs.Rules.{class_of, way_tags}
 use Rattle.road_pieces.specs.Matches.{IsPattern}
 use Rattle.road_pieces.proofs.Members.{in_left, in_right, of_append, IsIn, in_flat, of_flat, in_map, of_map, in_from_among, among_from_in}
-use Rattle.folder_spec.specs.Links.{Link, base_link, edges_of, last_edge, last_of}
+use Rattle.folder_spec.specs.Links.{Link, base_link, edges_of, last_edge, last_edge_of}
 use Rattle.road_walks.specs.Masks.{in_mask}
-use Rattle.road_walks.specs.BaseEdges.{FormatNumbers, directed_pieces, reverse_of, local_index, is_same, IsKept, IsMaskBit, IsStoredSequence}
-use Rattle.folder_spec.specs.Chains.{IsEdge, HasNode, IsContractible, GoesThrough, IsChain, piece_level}
+use Rattle.road_walks.specs.BaseEdges.{FormatNumbers, directed_pieces, reverse_of, local_index, is_same, IsKeptPiece, IsMaskBit, IsStoredSequence}
+use Rattle.folder_spec.specs.Chains.{IsLevelEdge, HasNode, IsContractible, GoesThrough, IsEdgeChain, piece_level}
 use Rattle.folder_spec.specs.FolderWalks.{AreLinked, from_node, to_node, link_cm, link_level}
 use Rattle.road_pieces.specs.Among.{Among, Once}
-use Rattle.folder_spec.specs.Tables.{NodeRow, TileRows, Table, IsRowOf, IsTable}
+use Rattle.folder_spec.specs.Tables.{NodeRow, TileRows, RowTable, IsRowOf, IsExtractTable}
 use Rattle.road_walks.proofs.Locals.{and_both, same_itself, same_only, in_directed, in_filter}
 use Rattle.folder_spec.proofs.ChainFacts.{edge_back}
 use Rattle.folder_spec.proofs.ChainLemmas.{one_on}
 use Rattle.road_walks.proofs.Sorted.{of_filter, any_in, of_any, in_rising, of_rising, numbers_connected, nodes_connected, once_append, once_filter, once_map, rising_once, node_never, node_on}
-use Rattle.road_walks.specs.Orders.{number_of, not_none}
-use Rattle.folder_spec.specs.Rows.{first_of, tells, keeps_piece, kept_at, edges_at, has_bit, mask_of, sequence_patterns, all_kept, stored_patterns, is_contractible, ways_on, chain_on, longest_chain, is_chain, links_at, levels_at, row_at, nodes_in, tiles_on, rows_of, rows_on, table_of}
+use Rattle.road_walks.specs.Orders.{number_of_bits, not_none}
+use Rattle.folder_spec.specs.Rows.{first_and_more, tells, keeps_piece, kept_at, level_edges_at, has_bit, mask_of, sequence_patterns, all_kept, stored_patterns, is_contractible, ways_on, chain_on, longest_chain, is_chain, links_at, levels_at, row_at, nodes_in, tiles_on, rows_of, rows_on, extract_table}
 use Rattle.folder_spec.specs.FolderLaws.{AreRoads, IsOrdered, RowsInOrder, SameRows}
 
 -- ---- tests
@@ -109,54 +109,54 @@ no_bit : (j : ℕ) → bit_of 0 j ≡ 1 → ⊥
 no_bit zero h = omega (arith, h)
 no_bit (suc j) h = no_bit j h
 
-number_at : (test : ℕ → Bool) (count i j : ℕ) → bit_of (number_of test i count) j ≡ 1 → (test (i + j) ≡ true) × (j < count)
+number_at : (test : ℕ → Bool) (count i j : ℕ) → bit_of (number_of_bits test i count) j ≡ 1 → (test (i + j) ≡ true) × (j < count)
 number_at test zero i j h = absurd (no_bit j h)
 number_at test (suc count) i zero h =
     let low = one_bit (test i) in
     (ap test {x = i + 0} {y = i} (omega arith) ∙ set_bit (test i) (omega (arith, h, low)), omega arith)
 number_at test (suc count) i (suc j) h =
     let low = one_bit (test i) in
-    let half : (from_bool (test i) + 2 * number_of test (suc i) count) / 2 ≡ number_of test (suc i) count = omega (arith, low) in
+    let half : (from_bool (test i) + 2 * number_of_bits test (suc i) count) / 2 ≡ number_of_bits test (suc i) count = omega (arith, low) in
     let (t, few) = number_at test count (suc i) j (sym (ap (λ n. bit_of n j) half) ∙ h) in
     (ap test {x = i + suc j} {y = suc i + j} (omega arith) ∙ t, omega (arith, few))
 
-at_number : (test : ℕ → Bool) (count i j : ℕ) → test (i + j) ≡ true → j < count → bit_of (number_of test i count) j ≡ 1
+at_number : (test : ℕ → Bool) (count i j : ℕ) → test (i + j) ≡ true → j < count → bit_of (number_of_bits test i count) j ≡ 1
 at_number test zero i j t h = absurd (omega (arith, h))
 at_number test (suc count) i zero t h =
     let one : from_bool (test i) ≡ 1 = ap from_bool (ap test {x = i} {y = i + 0} (omega arith) ∙ t) in
     omega (arith, one)
 at_number test (suc count) i (suc j) t h =
     let low = one_bit (test i) in
-    let half : (from_bool (test i) + 2 * number_of test (suc i) count) / 2 ≡ number_of test (suc i) count = omega (arith, low) in
+    let half : (from_bool (test i) + 2 * number_of_bits test (suc i) count) / 2 ≡ number_of_bits test (suc i) count = omega (arith, low) in
     ap (λ n. bit_of n j) half ∙ at_number test count (suc i) j (ap test {x = suc i + j} {y = i + suc j} (omega arith) ∙ t) (omega (arith, h))
 
-number_bit : (test : ℕ → Bool) (count i : ℕ) → IsBitSet (number_of test 0 count) i → (test i ≡ true) × (i < count)
-number_bit test count i h = let (t, low) = number_at test count 0 i ((bit_test (number_of test 0 count) i).1 h) in (ap test {x = i} {y = 0 + i} (omega arith) ∙ t, low)
+number_bit : (test : ℕ → Bool) (count i : ℕ) → IsBitSet (number_of_bits test 0 count) i → (test i ≡ true) × (i < count)
+number_bit test count i h = let (t, low) = number_at test count 0 i ((bit_test (number_of_bits test 0 count) i).1 h) in (ap test {x = i} {y = 0 + i} (omega arith) ∙ t, low)
 
-bit_number : (test : ℕ → Bool) (count i : ℕ) → test i ≡ true → i < count → IsBitSet (number_of test 0 count) i
-bit_number test count i t h = (bit_test (number_of test 0 count) i).0 (at_number test count 0 i (ap test {x = 0 + i} {y = i} (omega arith) ∙ t) h)
+bit_number : (test : ℕ → Bool) (count i : ℕ) → test i ≡ true → i < count → IsBitSet (number_of_bits test 0 count) i
+bit_number test count i t h = (bit_test (number_of_bits test 0 count) i).0 (at_number test count 0 i (ap test {x = 0 + i} {y = i} (omega arith) ∙ t) h)
 
 module _ (x : Extract) (asked : ℕ) (numbers : FormatNumbers) (all : List (List DirectedPiece × ℕ)) (tile_of : ℕ → ℤ → ℕ) (roads : AreRoads x asked numbers all tile_of) where
   -- ---- edges
   abbrev Edges : ℕ → ℤ → List DirectedPiece
-  Edges k n = edges_at x asked numbers all tile_of k n
+  Edges k n = level_edges_at x asked numbers all tile_of k n
 
-  of_kept : (k : ℕ) (p : DirectedPiece) → IsIn (kept_at x asked numbers all tile_of k) p → IsEdge x asked k p
+  of_kept : (k : ℕ) (p : DirectedPiece) → IsIn (kept_at x asked numbers all tile_of k) p → IsLevelEdge x asked k p
   of_kept k p h =
       let (there, passes) = of_filter (λ q. keeps_piece x asked numbers all tile_of q && nat_eq (piece_level x q) k) (directed_pieces x) p h in
       let (keep, level) = and_parts (keeps_piece x asked numbers all tile_of p) (nat_eq (piece_level x p) k) passes in
       record { kept = record { exists = roads.pieces_are p (among_from_in (directed_pieces x) p there); kept = some_number _ keep }; level_is = eqb-true (piece_level x p) k level }
 
-  in_kept : (k : ℕ) (p : DirectedPiece) → IsEdge x asked k p → IsIn (kept_at x asked numbers all tile_of k) p
+  in_kept : (k : ℕ) (p : DirectedPiece) → IsLevelEdge x asked k p → IsIn (kept_at x asked numbers all tile_of k) p
   in_kept k p is =
       in_filter (λ q. keeps_piece x asked numbers all tile_of q && nat_eq (piece_level x q) k) (directed_pieces x) p (in_directed x p is.kept.exists) (and_both _ _ (number_some _ is.kept.kept) (eq-eqb (piece_level x p) k is.level_is))
 
-  of_edges : (k : ℕ) (n : ℤ) (p : DirectedPiece) → IsIn (Edges k n) p → IsEdge x asked k p × (piece_start x p ≡ n)
+  of_edges : (k : ℕ) (n : ℤ) (p : DirectedPiece) → IsIn (Edges k n) p → IsLevelEdge x asked k p × (piece_start x p ≡ n)
   of_edges k n p h =
       let (there, passes) = of_filter (λ q. int_eq (piece_start x q) n) (kept_at x asked numbers all tile_of k) p h in
       (of_kept k p there, (signed_Decides (piece_start x p) n).0 passes)
 
-  in_edges : (k : ℕ) (n : ℤ) (p : DirectedPiece) → IsEdge x asked k p → piece_start x p ≡ n → IsIn (Edges k n) p
+  in_edges : (k : ℕ) (n : ℤ) (p : DirectedPiece) → IsLevelEdge x asked k p → piece_start x p ≡ n → IsIn (Edges k n) p
   in_edges k n p is starts =
       in_filter (λ q. int_eq (piece_start x q) n) (kept_at x asked numbers all tile_of k) p (in_kept k p is) ((signed_Decides (piece_start x p) n).1 starts)
 
@@ -196,8 +196,8 @@ module _ (x : Extract) (asked : ℕ) (numbers : FormatNumbers) (all : List (List
       in_rising nat_lt numbers_connected (map (λ p. tile_of k (piece_start x p)) (kept_at x asked numbers all tile_of k)) (tile_of k n)
       (subst (λ m. IsIn (map (λ p. tile_of k (piece_start x p)) (kept_at x asked numbers all tile_of k)) (tile_of k m)) has.starts (in_map (λ p. tile_of k (piece_start x p)) (kept_at x asked numbers all tile_of k) has.piece (in_kept k has.piece has.is)))
 
-  abbrev table : Table
-  table = table_of x asked numbers all tile_of
+  abbrev table : RowTable
+  table = extract_table x asked numbers all tile_of
 
   level_in : (n : ℤ) (k : ℕ) → HasNode x asked n k → IsIn (0 ∷ (1 ∷ (2 ∷ []))) k
   level_in n k has =
@@ -242,10 +242,10 @@ module _ (x : Extract) (asked : ℕ) (numbers : FormatNumbers) (all : List (List
 
   -- ---- chains
   abbrev Lead : ℕ → ℤ → List DirectedPiece → ℤ → Type 0
-  Lead k a ps b = Leads (IsEdge x asked k) (piece_start x) (piece_end x) (GoesThrough x asked numbers k) a ps b
+  Lead k a ps b = Leads (IsLevelEdge x asked k) (piece_start x) (piece_end x) (GoesThrough x asked numbers k) a ps b
 
   record GoesOn (k : ℕ) (p q : DirectedPiece) : Type 0 where
-    is : IsEdge x asked k q
+    is : IsLevelEdge x asked k q
     starts : piece_start x q ≡ piece_end x p
     goes : GoesThrough x asked numbers k p q
 
@@ -278,11 +278,11 @@ module _ (x : Extract) (asked : ℕ) (numbers : FormatNumbers) (all : List (List
   abbrev Onward : ℕ → ℕ → DirectedPiece → List DirectedPiece
   Onward fuel k p = chain_on x asked numbers all tile_of fuel k p
 
-  onward_leads : (fuel k : ℕ) (p : DirectedPiece) → IsEdge x asked k p → Lead k (piece_start x p) (p ∷ Onward fuel k p) (piece_end x (last_of p (Onward fuel k p)))
+  onward_leads : (fuel k : ℕ) (p : DirectedPiece) → IsLevelEdge x asked k p → Lead k (piece_start x p) (p ∷ Onward fuel k p) (piece_end x (last_edge_of p (Onward fuel k p)))
   onward_leads zero k p is = (is, refl, tt, refl)
   onward_leads (suc fuel) k p is = by (Ways k p) (of_ways k p) (onward_leads fuel k)
     where
-      by : (ws : List DirectedPiece) → ((q : DirectedPiece) → IsIn ws q → GoesOn k p q) → ((q : DirectedPiece) → IsEdge x asked k q → Lead k (piece_start x q) (q ∷ Onward fuel k q) (piece_end x (last_of q (Onward fuel k q)))) → Lead k (piece_start x p) (p ∷ first_of (Onward fuel k) ws) (piece_end x (last_of p (first_of (Onward fuel k) ws)))
+      by : (ws : List DirectedPiece) → ((q : DirectedPiece) → IsIn ws q → GoesOn k p q) → ((q : DirectedPiece) → IsLevelEdge x asked k q → Lead k (piece_start x q) (q ∷ Onward fuel k q) (piece_end x (last_edge_of q (Onward fuel k q)))) → Lead k (piece_start x p) (p ∷ first_and_more (Onward fuel k) ws) (piece_end x (last_edge_of p (first_and_more (Onward fuel k) ws)))
       by [] goes rest = (is, refl, tt, refl)
       by (q ∷ ws) goes rest =
           let g : GoesOn k p q = goes q (inl refl) in
@@ -294,14 +294,14 @@ module _ (x : Extract) (asked : ℕ) (numbers : FormatNumbers) (all : List (List
   onward_is zero k (q ∷ qs) p a b few lead shut = absurd (omega (arith, few))
   onward_is (suc fuel) k [] p a b few lead shut =
       let closed : is_contractible x asked numbers all tile_of k (piece_end x p) ≡ false = ap (is_contractible x asked numbers all tile_of k) lead.3 ∙ shut in
-      ap (λ t. first_of (Onward fuel k) (cond t (others k p) [])) closed
+      ap (λ t. first_and_more (Onward fuel k) (cond t (others k p) [])) closed
   onward_is (suc fuel) k (q ∷ qs) p a b few lead shut =
       by (Ways k p) (of_ways k p) (in_ways k p q goes) (onward_is fuel k qs q (piece_end x p) b (omega (arith, few)) lead.3 shut)
     where
       goes : GoesOn k p q
       goes = record { is = lead.3.0; starts = lead.3.1; goes = lead.2 }
 
-      by : (ws : List DirectedPiece) → ((r : DirectedPiece) → IsIn ws r → GoesOn k p r) → IsIn ws q → Onward fuel k q ≡ qs → first_of (Onward fuel k) ws ≡ q ∷ qs
+      by : (ws : List DirectedPiece) → ((r : DirectedPiece) → IsIn ws r → GoesOn k p r) → IsIn ws q → Onward fuel k q ≡ qs → first_and_more (Onward fuel k) ws ≡ q ∷ qs
       by [] others there rest = absurd there
       by (w ∷ ws) others there rest =
           let g : GoesOn k p w = others w (inl refl) in
@@ -321,7 +321,7 @@ module _ (x : Extract) (asked : ℕ) (numbers : FormatNumbers) (all : List (List
       by true t = absurd (h ((roads.contractible_is k n).0 t))
       by false t = refl
 
-  chain_of : (k : ℕ) (p : DirectedPiece) → IsEdge x asked k p → is_chain x asked numbers all tile_of k (Longest k p) ≡ true → IsChain x asked numbers k (p ∷ (Longest k p).more)
+  chain_of : (k : ℕ) (p : DirectedPiece) → IsLevelEdge x asked k p → is_chain x asked numbers all tile_of k (Longest k p) ≡ true → IsEdgeChain x asked numbers k (p ∷ (Longest k p).more)
   chain_of k p is h =
       let l : Link DirectedPiece = Longest k p in
       let (level, h1) = and_parts (nat_le k 1) _ h in
@@ -347,7 +347,7 @@ module _ (x : Extract) (asked : ℕ) (numbers : FormatNumbers) (all : List (List
   abbrev Links : ℕ → ℤ → List (Link DirectedPiece)
   Links k n = links_at x asked numbers all tile_of k n
 
-  linked : (k : ℕ) (p : DirectedPiece) (qs : List DirectedPiece) → 1 ≤ length qs → IsChain x asked numbers k (p ∷ qs) → AreLinked x asked numbers p qs
+  linked : (k : ℕ) (p : DirectedPiece) (qs : List DirectedPiece) → 1 ≤ length qs → IsEdgeChain x asked numbers k (p ∷ qs) → AreLinked x asked numbers p qs
   linked k p [] some chain = absurd (omega (arith, some))
   linked k p (q ∷ qs) some chain = (k, chain)
 
@@ -357,7 +357,7 @@ module _ (x : Extract) (asked : ℕ) (numbers : FormatNumbers) (all : List (List
         | inl chain ↦ let (mapped, test) = of_filter (is_chain x asked numbers all tile_of k) (map (Longest k) (Edges k n)) l chain in
             let (p, (there, same)) = of_map (Longest k) (Edges k n) l mapped in
             let (is, starts) = of_edges k n p there in
-            let c : IsChain x asked numbers k (p ∷ (Longest k p).more) = chain_of k p is (ap (is_chain x asked numbers all tile_of k) same ∙ test) in
+            let c : IsEdgeChain x asked numbers k (p ∷ (Longest k p).more) = chain_of k p is (ap (is_chain x asked numbers all tile_of k) same ∙ test) in
             subst (λ m. AreLinked x asked numbers m.first m.more × ((from_node x m ≡ n) × (link_level x m ≡ k))) same
             (linked k p (Longest k p).more (let two = c.two in omega (arith, two)) c, (starts, is.level_is))
         | inr base ↦ let (p, (there, same)) = of_map base_link (Edges k n) l base in
@@ -371,16 +371,16 @@ module _ (x : Extract) (asked : ℕ) (numbers : FormatNumbers) (all : List (List
   in_links k n p (q ∷ qs) (other, c) starts level =
       let l : Link DirectedPiece = record { first = p; more = q ∷ qs } in
       let on : other ≡ k = sym (c.leads.0.level_is) ∙ level in
-      let chain : IsChain x asked numbers k (p ∷ (q ∷ qs)) = subst (λ m. IsChain x asked numbers m (p ∷ (q ∷ qs))) on c in
-      let is : IsEdge x asked k p = chain.leads.0 in
-      let to : piece_end x (last_of p (q ∷ qs)) ≡ chain.end = Rattle.folder_spec.proofs.ChainFacts.leads_end (IsEdge x asked k) (piece_start x) (piece_end x) (GoesThrough x asked numbers k) p (q ∷ qs) chain.start chain.end chain.leads in
+      let chain : IsEdgeChain x asked numbers k (p ∷ (q ∷ qs)) = subst (λ m. IsEdgeChain x asked numbers m (p ∷ (q ∷ qs))) on c in
+      let is : IsLevelEdge x asked k p = chain.leads.0 in
+      let to : piece_end x (last_edge_of p (q ∷ qs)) ≡ chain.end = Rattle.folder_spec.proofs.ChainFacts.leads_end (IsLevelEdge x asked k) (piece_start x) (piece_end x) (GoesThrough x asked numbers k) p (q ∷ qs) chain.start chain.end chain.leads in
       let from : piece_start x p ≡ chain.start = chain.leads.1 in
       let few = chain.few in
       let more : Onward 65_535 k p ≡ q ∷ qs = onward_is 65_535 k (q ∷ qs) p chain.start chain.end (omega (arith, few)) chain.leads (is_closed k chain.end chain.ends) in
       let same : Longest k p ≡ l = λ i. record { first = p; more = more i } in
       let test : is_chain x asked numbers all tile_of k l ≡ true =
       and_both _ _ (le-leb k 1 chain.level_is)
-      (and_both _ _ (apart_nodes (piece_start x p) (piece_end x (last_of p (q ∷ qs))) (λ e. chain.no_circle (sym from ∙ (e ∙ to))))
+      (and_both _ _ (apart_nodes (piece_start x p) (piece_end x (last_edge_of p (q ∷ qs))) (λ e. chain.no_circle (sym from ∙ (e ∙ to))))
       (and_both _ _ (from_false _ (ap (is_contractible x asked numbers all tile_of k) from ∙ is_closed k chain.start chain.begins))
       (and_both _ _ (from_false _ (ap (is_contractible x asked numbers all tile_of k) to ∙ is_closed k chain.end chain.ends))
       (and_both _ _ (le-leb 1 (suc (length qs)) (omega arith))
@@ -400,15 +400,15 @@ module _ (x : Extract) (asked : ℕ) (numbers : FormatNumbers) (all : List (List
       in_filter (λ m. not (nat_eq m k) && not_none (Edges m n)) (0 ∷ (1 ∷ (2 ∷ []))) l (level_in n l has) (and_both _ _ (true_apart l k (λ e. apart (sym e))) (by_node l n has))
 
   -- ---- sequences
-  keeps_all : (ps : List DirectedPiece) → All (IsKept x asked) ps → all_kept x asked numbers all tile_of ps ≡ true
+  keeps_all : (ps : List DirectedPiece) → All (IsKeptPiece x asked) ps → all_kept x asked numbers all tile_of ps ≡ true
   keeps_all [] h = refl
-  keeps_all (p ∷ ps) h = and_both _ _ (number_some _ (let k : IsKept x asked p = All-head (IsKept x asked) p ps h in k.kept)) (keeps_all ps (All-tail (IsKept x asked) p ps h))
+  keeps_all (p ∷ ps) h = and_both _ _ (number_some _ (let k : IsKeptPiece x asked p = All-head (IsKeptPiece x asked) p ps h in k.kept)) (keeps_all ps (All-tail (IsKeptPiece x asked) p ps h))
 
-  all_keeps : (ps : List DirectedPiece) → All (IsPiece x) ps → all_kept x asked numbers all tile_of ps ≡ true → All (IsKept x asked) ps
-  all_keeps [] are h = All-nil (IsKept x asked)
+  all_keeps : (ps : List DirectedPiece) → All (IsPiece x) ps → all_kept x asked numbers all tile_of ps ≡ true → All (IsKeptPiece x asked) ps
+  all_keeps [] are h = All-nil (IsKeptPiece x asked)
   all_keeps (p ∷ ps) are h =
       let (one, rest) = and_parts (keeps_piece x asked numbers all tile_of p) (all_kept x asked numbers all tile_of ps) h in
-      All-cons (IsKept x asked) p ps (record { exists = All-head (IsPiece x) p ps are; kept = some_number _ one }) (all_keeps ps (All-tail (IsPiece x) p ps are) rest)
+      All-cons (IsKeptPiece x asked) p ps (record { exists = All-head (IsPiece x) p ps are; kept = some_number _ one }) (all_keeps ps (All-tail (IsPiece x) p ps are) rest)
 
   pieces_of : (pattern : List DirectedPiece) (modes : ℕ) → IsPattern x pattern modes → All (IsPiece x) pattern
   pieces_of pattern modes is =
@@ -463,7 +463,7 @@ module _ (x : Extract) (asked : ℕ) (numbers : FormatNumbers) (all : List (List
   mask_back : (e : DirectedPiece) (i : ℕ) → IsMaskBit x numbers e i → IsBitSet (mask_of x asked numbers all tile_of e) i
   mask_back e i m = bit_number (has_bit x asked numbers all tile_of e) numbers.bits i (bit_back e i m) m.low
 
-  is_table : IsTable x asked numbers tile_of table
+  is_table : IsExtractTable x asked numbers tile_of table
   is_table = record {
     node_there = row_there;
     node_is = λ rows r there among. let s = row_is rows r there among in s.has;
@@ -494,13 +494,13 @@ module _ (x : Extract) (asked : ℕ) (numbers : FormatNumbers) (all : List (List
   abbrev Longer : ℕ → DirectedPiece → Link DirectedPiece
   Longer k p = longest_chain x asked numbers all tile_of k p
 
-  edges_once : (k : ℕ) (n : ℤ) → Once (edges_at x asked numbers all tile_of k n)
+  edges_once : (k : ℕ) (n : ℤ) → Once (level_edges_at x asked numbers all tile_of k n)
   edges_once k n = once_filter (λ p. int_eq (piece_start x p) n) (kept_at x asked numbers all tile_of k) (once_filter (λ p. keeps_piece x asked numbers all tile_of p && nat_eq (piece_level x p) k) (directed_pieces x) roads.pieces_once)
 
-  short_or_long : (k : ℕ) (n : ℤ) (l : Link DirectedPiece) → IsIn (filter (is_chain x asked numbers all tile_of k) (map (Longer k) (edges_at x asked numbers all tile_of k n))) l → IsIn (map base_link (edges_at x asked numbers all tile_of k n)) l → ⊥
+  short_or_long : (k : ℕ) (n : ℤ) (l : Link DirectedPiece) → IsIn (filter (is_chain x asked numbers all tile_of k) (map (Longer k) (level_edges_at x asked numbers all tile_of k n))) l → IsIn (map base_link (level_edges_at x asked numbers all tile_of k n)) l → ⊥
   short_or_long k n l h other =
-      let (there, test) = of_filter (is_chain x asked numbers all tile_of k) (map (Longer k) (edges_at x asked numbers all tile_of k n)) l h in
-      let (p, (inside, same)) = of_map base_link (edges_at x asked numbers all tile_of k n) l other in
+      let (there, test) = of_filter (is_chain x asked numbers all tile_of k) (map (Longer k) (level_edges_at x asked numbers all tile_of k n)) l h in
+      let (p, (inside, same)) = of_map base_link (level_edges_at x asked numbers all tile_of k n) l other in
       let none : length l.more ≡ 0 = ap (λ m. length m.more) (sym same) in
       let (a, h1) = and_parts (nat_le k 1) _ test in
       let (b, h2) = and_parts (not (int_eq (from_node x l) (to_node x l))) _ h1 in
@@ -512,9 +512,9 @@ module _ (x : Extract) (asked : ℕ) (numbers : FormatNumbers) (all : List (List
 
   links_once : (k : ℕ) (n : ℤ) → Once (Its k n)
   links_once k n =
-      once_append (filter (is_chain x asked numbers all tile_of k) (map (Longer k) (edges_at x asked numbers all tile_of k n))) (map base_link (edges_at x asked numbers all tile_of k n))
-      (once_filter (is_chain x asked numbers all tile_of k) (map (Longer k) (edges_at x asked numbers all tile_of k n)) (once_map (Longer k) (λ a b h. ap (λ l. l.first) h) (edges_at x asked numbers all tile_of k n) (edges_once k n)))
-      (once_map base_link (λ a b h. ap (λ l. l.first) h) (edges_at x asked numbers all tile_of k n) (edges_once k n))
+      once_append (filter (is_chain x asked numbers all tile_of k) (map (Longer k) (level_edges_at x asked numbers all tile_of k n))) (map base_link (level_edges_at x asked numbers all tile_of k n))
+      (once_filter (is_chain x asked numbers all tile_of k) (map (Longer k) (level_edges_at x asked numbers all tile_of k n)) (once_map (Longer k) (λ a b h. ap (λ l. l.first) h) (level_edges_at x asked numbers all tile_of k n) (edges_once k n)))
+      (once_map base_link (λ a b h. ap (λ l. l.first) h) (level_edges_at x asked numbers all tile_of k n) (edges_once k n))
       (λ l h other. short_or_long k n l (in_from_among _ l h) (in_from_among _ l other))
 
   abbrev all_links : ℕ → List ℤ → List (Link DirectedPiece)
@@ -538,7 +538,7 @@ module _ (x : Extract) (asked : ℕ) (numbers : FormatNumbers) (all : List (List
   nodes_once : (k c : ℕ) → Once (nodes_in x asked numbers all tile_of k c)
   nodes_once k c = rising_once int_lt nodes_connected node_never node_on (filter (λ n. nat_eq (tile_of k n) c) (map (piece_start x) (kept_at x asked numbers all tile_of k)))
 
-  is_ordered : IsOrdered tile_of (table_of x asked numbers all tile_of)
+  is_ordered : IsOrdered tile_of (extract_table x asked numbers all tile_of)
   is_ordered = record {
     tile_is = λ rows r there among. let s = row_is x asked numbers all tile_of roads rows r there among in sym s.tile;
     nodes_once = λ rows there. subst (λ r. Once (map (λ s. s.osm) r.nodes)) (rows_are x asked numbers all tile_of roads rows there) (subst Once (sym (osm_of_rows rows.level (nodes_in x asked numbers all tile_of rows.level rows.tile))) (nodes_once rows.level rows.tile));

@@ -15,7 +15,7 @@ use Rattle.folder_spec.specs.FolderWalks.{AreLinked, from_node, link_level}
 use Rattle.tile_graph.specs.Graphs.{GraphEdge, GraphNode, GraphSequence, Graph}
 use Rattle.folder_spec.specs.Renders.{Renders}
 use Rattle.road_pieces.specs.Among.{Among}
-use Rattle.folder_spec.specs.Tables.{first_index, NodeRow, TileRows, Table, no_node, no_tile, same_list, same_link, is_tile, is_node, tile_at, node_at, links_of, node_id, link_id, edge_row, node_row, sequence_row, graph_of, IsRowOf, IsTable}
+use Rattle.folder_spec.specs.Tables.{first_index, NodeRow, TileRows, RowTable, no_node, no_tile, same_list, same_link, is_tile, is_node, tile_at, node_row_at, links_of, node_graph_id, link_graph_id, edge_row, node_row, sequence_row, graph_of, IsRowOf, IsExtractTable}
 use Rattle.graph_id.specs.GraphId.{value_of}
 use Rattle.road_walks.proofs.Locals.{same_itself, same_only, and_both}
 use Rattle.folder_spec.proofs.WalksAgree.{node_from}
@@ -71,7 +71,7 @@ low true b = omega arith
 low false true = omega arith
 low false false = omega arith
 
-module _ (x : Extract) (asked : ℕ) (numbers : FormatNumbers) (tile_of : ℕ → ℤ → ℕ) (t : Table) (table : IsTable x asked numbers tile_of t) where
+module _ (x : Extract) (asked : ℕ) (numbers : FormatNumbers) (tile_of : ℕ → ℤ → ℕ) (t : RowTable) (table : IsExtractTable x asked numbers tile_of t) where
   abbrev pub Row : ℤ → ℕ → Type 0
   Row n level = IsRowOf t tile_of n level
 
@@ -95,7 +95,7 @@ module _ (x : Extract) (asked : ℕ) (numbers : FormatNumbers) (tile_of : ℕ �
   tile_by_is n level r =
       ap (λ k. tile_at t k (tile_of level n)) (sym r.level_is) ∙ (ap (tile_at t r.rows.level) (sym r.tile_is) ∙ tile_is r.rows r.there)
 
-  pub row_is : (n : ℤ) (level : ℕ) (r : Row n level) → node_at t tile_of n level ≡ r.row
+  pub row_is : (n : ℤ) (level : ℕ) (r : Row n level) → node_row_at t tile_of n level ≡ r.row
   row_is n level r =
       let nodes : List NodeRow = r.rows.nodes in
       let got : NodeRow = get_or nodes (first_index (is_node n) nodes) no_node in
@@ -103,17 +103,17 @@ module _ (x : Extract) (asked : ℕ) (numbers : FormatNumbers) (tile_of : ℕ �
       found (is_node n) nodes no_node r.row r.among ((signed_Decides n r.row.osm).1 (sym r.osm_is)) in
       ap (λ rows. get_or rows.nodes (first_index (is_node n) rows.nodes) no_node) (tile_by_is n level r) ∙ table.nodes_own r.rows got r.row r.there f.1 r.among (sym ((signed_Decides n got.osm).0 f.0) ∙ sym r.osm_is)
 
-  osm_of : (n : ℤ) (level : ℕ) → HasNode x asked n level → (node_at t tile_of n level).osm ≡ n
+  osm_of : (n : ℤ) (level : ℕ) → HasNode x asked n level → (node_row_at t tile_of n level).osm ≡ n
   osm_of n level has =
       let r : Row n level = table.node_there n level has in
       ap (λ s. s.osm) (row_is n level r) ∙ r.osm_is
 
-  node_own : (n : ℤ) (k : ℕ) (m : ℤ) (l : ℕ) → HasNode x asked n k → HasNode x asked m l → node_id t tile_of n k ≡ node_id t tile_of m l → (n ≡ m) × (k ≡ l)
+  node_own : (n : ℤ) (k : ℕ) (m : ℤ) (l : ℕ) → HasNode x asked n k → HasNode x asked m l → node_graph_id t tile_of n k ≡ node_graph_id t tile_of m l → (n ≡ m) × (k ≡ l)
   node_own n k m l has_n has_m same =
       let (level, tile, place) =
       id_own k l (tile_of k n) (tile_of l m) (first_index (is_node n) (tile_by n k).nodes) (first_index (is_node m) (tile_by m l).nodes) (level_low n k has_n) (level_low m l has_m) (table.tiles_low n k has_n) (table.tiles_low m l has_m) same in
       let rows : tile_by n k ≡ tile_by m l = λ i. tile_at t (level i) (tile i) in
-      let node : node_at t tile_of n k ≡ node_at t tile_of m l = λ i. get_or (rows i).nodes (place i) no_node in
+      let node : node_row_at t tile_of n k ≡ node_row_at t tile_of m l = λ i. get_or (rows i).nodes (place i) no_node in
       (sym (osm_of n k has_n) ∙ (ap (λ s. s.osm) node ∙ osm_of m l has_m), level)
 
   abbrev pub Exists : Link DirectedPiece → Type 0
@@ -136,7 +136,7 @@ module _ (x : Extract) (asked : ℕ) (numbers : FormatNumbers) (tile_of : ℕ �
       subst (λ rows. Among (links_of rows) l) (sym (tile_by_is (from_node x l) (link_level x l) r))
       (among_from_in (links_of r.rows) l (in_flat (λ s. s.links) r.rows.nodes r.row l (in_from_among r.rows.nodes r.row r.among) (in_from_among r.row.links l (among_links l is))))
 
-  edge_own : (k l : Link DirectedPiece) → Exists k → Exists l → link_id x t tile_of k ≡ link_id x t tile_of l → k ≡ l
+  edge_own : (k l : Link DirectedPiece) → Exists k → Exists l → link_graph_id x t tile_of k ≡ link_graph_id x t tile_of l → k ≡ l
   edge_own k l is_k is_l same =
       let n : ℤ = from_node x k in
       let m : ℤ = from_node x l in
@@ -173,7 +173,7 @@ module _ (x : Extract) (asked : ℕ) (numbers : FormatNumbers) (tile_of : ℕ �
 
   edge_there : (l : Link DirectedPiece) → Exists l → Contains (node_row x t tile_of (from_node x l) (link_level x l)).edges (edge_row x t tile_of l)
   edge_there l is =
-      let links : List (Link DirectedPiece) = (node_at t tile_of (from_node x l) (link_level x l)).links in
+      let links : List (Link DirectedPiece) = (node_row_at t tile_of (from_node x l) (link_level x l)).links in
       let among : Among links l =
       subst (λ r. Among r.links l) (sym (row_is (from_node x l) (link_level x l) (row_of l is))) (among_links l is) in
       contains_from_in (map (edge_row x t tile_of) links) (edge_row x t tile_of l) (in_map (edge_row x t tile_of) links l (in_from_among links l among))
@@ -181,40 +181,40 @@ module _ (x : Extract) (asked : ℕ) (numbers : FormatNumbers) (tile_of : ℕ �
   edge_only : (n : ℤ) (k : ℕ) (e : GraphEdge) → HasNode x asked n k → Contains (node_row x t tile_of n k).edges e → (l : Link DirectedPiece) × (Exists l × ((from_node x l ≡ n) × ((link_level x l ≡ k) × (edge_row x t tile_of l ≡ e))))
   edge_only n k e has there =
       let r : Row n k = table.node_there n k has in
-      let links : List (Link DirectedPiece) = (node_at t tile_of n k).links in
+      let links : List (Link DirectedPiece) = (node_row_at t tile_of n k).links in
       let (l, (inside, same)) =
       of_map (edge_row x t tile_of) links e (in_from_contains (map (edge_row x t tile_of) links) e there) in
       let among : Among r.row.links l = subst (λ s. Among s.links l) (row_is n k r) (among_from_in links l inside) in
       let (is, (from, level)) = (table.links_are r.rows r.row r.there r.among l).0 among in
       (l, (is, (from ∙ r.osm_is, (level ∙ r.level_is, same))))
 
-  transition_on : (n : ℤ) (k : ℕ) → HasNode x asked n k → (id : ℕ) → Contains (node_row x t tile_of n k).transitions id → (l : ℕ) × (HasNode x asked n l × ((k ≢ l) × (id ≡ node_id t tile_of n l)))
+  transition_on : (n : ℤ) (k : ℕ) → HasNode x asked n k → (id : ℕ) → Contains (node_row x t tile_of n k).transitions id → (l : ℕ) × (HasNode x asked n l × ((k ≢ l) × (id ≡ node_graph_id t tile_of n l)))
   transition_on n k has id there =
       let r : Row n k = table.node_there n k has in
-      let levels : List ℕ = (node_at t tile_of n k).levels in
+      let levels : List ℕ = (node_row_at t tile_of n k).levels in
       let (l, (inside, same)) =
-      of_map (node_id t tile_of n) levels id (in_from_contains (map (node_id t tile_of n) levels) id there) in
+      of_map (node_graph_id t tile_of n) levels id (in_from_contains (map (node_graph_id t tile_of n) levels) id there) in
       let among : Among r.row.levels l = subst (λ s. Among s.levels l) (row_is n k r) (among_from_in levels l inside) in
       let (has_l, apart) = (table.levels_are r.rows r.row r.there r.among l).0 among in
       (l, (subst (λ m. HasNode x asked m l) r.osm_is has_l, (λ h. apart (r.level_is ∙ h), sym same)))
 
-  transition_back : (n : ℤ) (k : ℕ) → HasNode x asked n k → (id : ℕ) → (l : ℕ) × (HasNode x asked n l × ((k ≢ l) × (id ≡ node_id t tile_of n l))) → Contains (node_row x t tile_of n k).transitions id
+  transition_back : (n : ℤ) (k : ℕ) → HasNode x asked n k → (id : ℕ) → (l : ℕ) × (HasNode x asked n l × ((k ≢ l) × (id ≡ node_graph_id t tile_of n l))) → Contains (node_row x t tile_of n k).transitions id
   transition_back n k has id (l, (has_l, (apart, e))) =
       let r : Row n k = table.node_there n k has in
-      let levels : List ℕ = (node_at t tile_of n k).levels in
+      let levels : List ℕ = (node_row_at t tile_of n k).levels in
       let among : Among r.row.levels l =
       (table.levels_are r.rows r.row r.there r.among l).1 (subst (λ m. HasNode x asked m l) (sym r.osm_is) has_l, λ h. apart (sym r.level_is ∙ h)) in
       let inside : IsIn levels l =
       in_from_among levels l (subst (λ s. Among s.levels l) (sym (row_is n k r)) among) in
-      contains_from_in (map (node_id t tile_of n) levels) id
-      (subst (IsIn (map (node_id t tile_of n) levels)) (sym e) (in_map (node_id t tile_of n) levels l inside))
+      contains_from_in (map (node_graph_id t tile_of n) levels) id
+      (subst (IsIn (map (node_graph_id t tile_of n) levels)) (sym e) (in_map (node_graph_id t tile_of n) levels l inside))
 
   sequence_there : (seq : List DirectedPiece) (modes : ℕ) → IsStoredSequence x asked numbers seq modes → Contains graph.sequences (sequence_row x t tile_of (seq, modes))
   sequence_there seq modes written =
       contains_from_in graph.sequences (sequence_row x t tile_of (seq, modes))
       (in_map (sequence_row x t tile_of) t.sequences (seq, modes) (in_from_among t.sequences (seq, modes) ((table.sequences_are seq modes).1 written)))
 
-  sequence_only : (s : GraphSequence) → Contains graph.sequences s → (seq : List DirectedPiece) × (IsStoredSequence x asked numbers seq s.modes × (s.edges ≡ map (λ p. link_id x t tile_of (base_link p)) seq))
+  sequence_only : (s : GraphSequence) → Contains graph.sequences s → (seq : List DirectedPiece) × (IsStoredSequence x asked numbers seq s.modes × (s.edges ≡ map (λ p. link_graph_id x t tile_of (base_link p)) seq))
   sequence_only s there =
       let (e, (inside, same)) = of_map (sequence_row x t tile_of) t.sequences s (in_from_contains graph.sequences s there) in
       let written : IsStoredSequence x asked numbers e.0 e.1 = (table.sequences_are e.0 e.1).0 (among_from_in t.sequences e inside) in

@@ -6,17 +6,17 @@ use Rattle.osm_model.specs.declared.extract.Extract.{Extract}
 use Rattle.road_pieces.specs.DirectedPiece.{DirectedPiece}
 use Rattle.road_pieces.specs.Paths.{Leads, Stands}
 use Rattle.road_pieces.specs.Following.{AllFollow}
-use Rattle.road_pieces.specs.Modes.{HasMode}
+use Rattle.road_pieces.specs.Modes.{ShareMode}
 use Rattle.road_pieces.specs.Rules.{Uses}
 use Rattle.road_pieces.specs.Pieces.{IsKeptJunction, piece_start, piece_end}
 use Rattle.road_pieces.specs.Lengths.{piece_cm}
 use Rattle.road_pieces.specs.Walks.{MayRide}
 use Rattle.road_pieces.proofs.Lists.{all_weaken, leads_all, leads_follow, leads_with, leads_any, stands_more}
 use Rattle.road_pieces.proofs.Agree.{same_walks}
-use Rattle.folder_spec.specs.Links.{Link, base_link, edges_of, last_of}
+use Rattle.folder_spec.specs.Links.{Link, base_link, edges_of, last_edge_of}
 use Rattle.folder_spec.specs.Levels.{LevelNode, level_node, LevelItem, edges_in, IsItem, item_start, item_end}
 use Rattle.road_walks.specs.BaseEdges.{FormatNumbers, reverse_of, IsFlagged, IsStoredSequence}
-use Rattle.folder_spec.specs.Chains.{piece_level, IsEdge, HasNode, GoesThrough}
+use Rattle.folder_spec.specs.Chains.{piece_level, IsLevelEdge, HasNode, GoesThrough}
 use Rattle.road_walks.specs.EdgeWalks.{MayFollowOn, EdgeWalk}
 use Rattle.folder_spec.specs.FolderWalks.{AreLinked, MayTake, from_node, to_node, link_cm, link_level, MayLink, LinkWalk, LevelWalk, SameLinks, SameLevels, SameRoads}
 use Rattle.road_walks.proofs.EdgeAgree.{kept_of, to_edge_walk, to_piece_walk}
@@ -36,22 +36,22 @@ module _ (x : Extract) (asked : ℕ) (numbers : FormatNumbers) (mode : ℕ) wher
   alone : (p : DirectedPiece) → MayRide x asked mode p → MayTake x asked numbers mode (base_link p)
   alone p ride = record { exists = kept_of x asked numbers mode p ride; uses = ride.may.1 }
 
-  chain_at : (within : HasMode numbers.all mode) (p : DirectedPiece) (more : List DirectedPiece) → AreLinked x asked numbers p more → Uses x mode p.way p.forward → EdgeLead (piece_start x p) (p ∷ more) (piece_end x (last_of p more))
-  chain_at within p [] is uses = (record { exists = is.exists; may = (is.kept, uses) }, refl, tt, refl)
-  chain_at within p (q ∷ qs) (level, chain) uses =
+  chain_at_offset : (within : ShareMode numbers.all mode) (p : DirectedPiece) (more : List DirectedPiece) → AreLinked x asked numbers p more → Uses x mode p.way p.forward → EdgeLead (piece_start x p) (p ∷ more) (piece_end x (last_edge_of p more))
+  chain_at_offset within p [] is uses = (record { exists = is.exists; may = (is.kept, uses) }, refl, tt, refl)
+  chain_at_offset within p (q ∷ qs) (level, chain) uses =
       let lead : EdgeLead chain.start (p ∷ (q ∷ qs)) chain.end = rides x asked numbers mode within level (q ∷ qs) p chain.start chain.end chain.leads uses in
-      subst (λ n. EdgeLead n (p ∷ (q ∷ qs)) (piece_end x (last_of p (q ∷ qs)))) (sym chain.leads.1)
-      (subst (λ n. EdgeLead chain.start (p ∷ (q ∷ qs)) n) (sym (leads_end (IsEdge x asked level) (piece_start x) (piece_end x) (GoesThrough x asked numbers level) p (q ∷ qs) chain.start chain.end chain.leads)) lead)
+      subst (λ n. EdgeLead n (p ∷ (q ∷ qs)) (piece_end x (last_edge_of p (q ∷ qs)))) (sym chain.leads.1)
+      (subst (λ n. EdgeLead chain.start (p ∷ (q ∷ qs)) n) (sym (leads_end (IsLevelEdge x asked level) (piece_start x) (piece_end x) (GoesThrough x asked numbers level) p (q ∷ qs) chain.start chain.end chain.leads)) lead)
 
-  chain_of : (within : HasMode numbers.all mode) (l : Link DirectedPiece) → MayTake x asked numbers mode l → EdgeLead (from_node x l) (edges_of l) (to_node x l)
-  chain_of within l may = chain_at within l.first l.more may.exists may.uses
+  chain_of : (within : ShareMode numbers.all mode) (l : Link DirectedPiece) → MayTake x asked numbers mode l → EdgeLead (from_node x l) (edges_of l) (to_node x l)
+  chain_of within l may = chain_at_offset within l.first l.more may.exists may.uses
 
-  plain_at : (within : HasMode numbers.all mode) (p : DirectedPiece) (more : List DirectedPiece) (q : DirectedPiece) (qs : List DirectedPiece) → more ≡ q ∷ qs → AreLinked x asked numbers p more → All (λ r. IsFlagged x numbers r → ⊥) (p ∷ more)
+  plain_at : (within : ShareMode numbers.all mode) (p : DirectedPiece) (more : List DirectedPiece) (q : DirectedPiece) (qs : List DirectedPiece) → more ≡ q ∷ qs → AreLinked x asked numbers p more → All (λ r. IsFlagged x numbers r → ⊥) (p ∷ more)
   plain_at within p [] q qs e is = absurd cc
   plain_at within p (r ∷ rs) q qs e (level, chain) =
       plain x asked numbers mode within level rs p r chain.start chain.end chain.leads
 
-  plain_of : (within : HasMode numbers.all mode) (l : Link DirectedPiece) → MayTake x asked numbers mode l → (q : DirectedPiece) (qs : List DirectedPiece) → l.more ≡ q ∷ qs → All (λ r. IsFlagged x numbers r → ⊥) (edges_of l)
+  plain_of : (within : ShareMode numbers.all mode) (l : Link DirectedPiece) → MayTake x asked numbers mode l → (q : DirectedPiece) (qs : List DirectedPiece) → l.more ≡ q ∷ qs → All (λ r. IsFlagged x numbers r → ⊥) (edges_of l)
   plain_of within l may q qs e = plain_at within l.first l.more q qs e may.exists
 
   all_stand : {E : Type 0} (es : List E) → All (λ e. Stands (e ∷ []) es) es
@@ -73,7 +73,7 @@ module _ (x : Extract) (asked : ℕ) (numbers : FormatNumbers) (mode : ℕ) wher
     length_is = links.sums_single (piece_cm x) w.edges ∙ w.length_is;
   }
 
-  from_link_walk : HasMode numbers.all mode → (a b : ℤ) (total : ℕ) → LinkWalk x asked numbers mode a b total → EdgeWalk x asked numbers mode a b total
+  from_link_walk : ShareMode numbers.all mode → (a b : ℤ) (total : ℕ) → LinkWalk x asked numbers mode a b total → EdgeWalk x asked numbers mode a b total
   from_link_walk within a b total w =
       let all : All (MayTake x asked numbers mode) w.links =
       leads_all (MayTake x asked numbers mode) (from_node x) (to_node x) (MayLink x numbers mode) w.links a b w.leads in
@@ -92,12 +92,12 @@ module _ (x : Extract) (asked : ℕ) (numbers : FormatNumbers) (mode : ℕ) wher
   node_from p (q ∷ qs) (level, chain) =
       record { piece = p; is = record { kept = chain.leads.0.kept; level_is = refl }; starts = refl }
 
-  pub node_to : (p : DirectedPiece) (more : List DirectedPiece) → AreLinked x asked numbers p more → HasNode x asked (piece_end x (last_of p more)) (piece_level x p)
+  pub node_to : (p : DirectedPiece) (more : List DirectedPiece) → AreLinked x asked numbers p more → HasNode x asked (piece_end x (last_edge_of p more)) (piece_level x p)
   node_to p [] is = record { piece = reverse_of p; is = record { kept = kept_back x asked p is; level_is = refl }; starts = back_starts x p }
   node_to p (q ∷ qs) (level, chain) =
-      let end : DirectedPiece = last_of p (q ∷ qs) in
-      let is : IsEdge x asked level end =
-      last_is (IsEdge x asked level) (piece_start x) (piece_end x) (GoesThrough x asked numbers level) p (q ∷ qs) chain.start chain.end chain.leads in
+      let end : DirectedPiece = last_edge_of p (q ∷ qs) in
+      let is : IsLevelEdge x asked level end =
+      last_is (IsLevelEdge x asked level) (piece_start x) (piece_end x) (GoesThrough x asked numbers level) p (q ∷ qs) chain.start chain.end chain.leads in
       record {
         piece = reverse_of end;
         is = record { kept = kept_back x asked end is.kept; level_is = is.level_is ∙ sym chain.leads.0.level_is };

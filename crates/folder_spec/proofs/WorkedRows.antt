@@ -5,7 +5,7 @@ use Rattle.road_pieces.specs.DirectedPiece.{DirectedPiece}
 use Rattle.road_pieces.specs.Rules.{names_of, class_of, forward_access, backward_access, node_access}
 use Rattle.folder_spec.specs.Links.{base_link}
 use Rattle.road_walks.specs.BaseEdges.{FormatNumbers, directed_pieces}
-use Rattle.folder_spec.specs.Tables.{TileRows, Table}
+use Rattle.folder_spec.specs.Tables.{TileRows, RowTable}
 use Rattle.road_pieces.proofs.WorkedRows.{small}
 use Rattle.tile_graph.specs.Tiles.{TileFields}
 use Rattle.folder_spec.specs.Records.{ToldFields, tile_from}
@@ -15,7 +15,7 @@ use Rattle.fixed_geo.specs.Length.{length_cm, square_length, longitude_differenc
 use Rattle.fixed_geo.specs.Root.{whole_root_of}
 use Rattle.tile_geometry.specs.Grid.{grid_tile, row_of, column_of}
 use Rattle.folder_spec.specs.Folder.{Given, folder_tiles}
-use Rattle.folder_spec.specs.Rows.{links_at, nodes_in, tiles_on, table_of}
+use Rattle.folder_spec.specs.Rows.{links_at, nodes_in, tiles_on, extract_table}
 
 abbrev numbers : FormatNumbers
 numbers = record { all = 79; vehicles = 77; bits = 8 }
@@ -48,8 +48,8 @@ its_links : links_at two_nodes 79 numbers [] one_tile 2 (pos 2) ≡ base_link ag
 unfolding class_of forward_access backward_access node_access
 its_links = refl
 
-abbrev its_table : Table
-its_table = table_of two_nodes 79 numbers [] one_tile
+abbrev its_table : RowTable
+its_table = extract_table two_nodes 79 numbers [] one_tile
 
 abbrev its_rows : TileRows
 its_rows = record {

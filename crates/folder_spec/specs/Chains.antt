@@ -3,11 +3,11 @@ use Rattle.std.specs.Prelude.{◌≡◌, ◌≢◌, ◌⊎◌, ℕ, ◌≤◌, �
 use Rattle.osm_model.specs.declared.extract.Extract.{Extract}
 use Rattle.road_pieces.specs.DirectedPiece.{DirectedPiece}
 use Rattle.road_pieces.specs.Paths.{Leads}
-use Rattle.road_pieces.specs.Modes.{HasMode}
+use Rattle.road_pieces.specs.Modes.{ShareMode}
 use Rattle.road_pieces.specs.Rules.{Passes, class_of, names_of, way_tags, way_access}
 use Rattle.road_pieces.specs.Pieces.{piece_start, piece_end}
 use Rattle.road_pieces.specs.Lengths.{piece_cm}
-use Rattle.road_walks.specs.BaseEdges.{FormatNumbers, reverse_of, local_index, IsKept, IsMaskBit, IsFlagged}
+use Rattle.road_walks.specs.BaseEdges.{FormatNumbers, reverse_of, local_index, IsKeptPiece, IsMaskBit, IsFlagged}
 
 -- a chain has at most so many edges, and an edge is at most so many centimetres long
 abbrev pub most_chain_edges : ℕ
@@ -32,14 +32,14 @@ abbrev pub access_of : Extract → DirectedPiece → ℕ
 access_of x p = way_access x p.way p.forward
 
 -- a base edge of a level
-pub record IsEdge (x : Extract) (asked level : ℕ) (p : DirectedPiece) : Type 0 where
-  pub kept : IsKept x asked p
+pub record IsLevelEdge (x : Extract) (asked level : ℕ) (p : DirectedPiece) : Type 0 where
+  pub kept : IsKeptPiece x asked p
   pub level_is : piece_level x p ≡ level
 
 -- a junction has a node on a level: a kept piece of that level starts there
 pub record HasNode (x : Extract) (asked : ℕ) (n : ℤ) (level : ℕ) : Type 0 where
   pub piece : DirectedPiece
-  pub is : IsEdge x asked level piece
+  pub is : IsLevelEdge x asked level piece
   pub starts : piece_start x piece ≡ n
 
 -- a node that a shortcut may pass: exactly two base edges of the level, of two pieces that aren't loops and
@@ -48,11 +48,11 @@ pub record HasNode (x : Extract) (asked : ℕ) (n : ℤ) (level : ℕ) : Type 0 
 pub record IsContractible (x : Extract) (asked : ℕ) (numbers : FormatNumbers) (level : ℕ) (n : ℤ) : Type 0 where
   pub first : DirectedPiece
   pub second : DirectedPiece
-  pub first_is : IsEdge x asked level first
+  pub first_is : IsLevelEdge x asked level first
   pub first_starts : piece_start x first ≡ n
-  pub second_is : IsEdge x asked level second
+  pub second_is : IsLevelEdge x asked level second
   pub second_starts : piece_start x second ≡ n
-  pub only : (p : DirectedPiece) → IsEdge x asked level p → piece_start x p ≡ n → (p ≡ first) ⊎ (p ≡ second)
+  pub only : (p : DirectedPiece) → IsLevelEdge x asked level p → piece_start x p ≡ n → (p ≡ first) ⊎ (p ≡ second)
   pub two : first ≢ second
   pub two_pieces : reverse_of first ≢ second
   pub no_loop : piece_end x first ≢ n
@@ -63,7 +63,7 @@ pub record IsContractible (x : Extract) (asked : ℕ) (numbers : FormatNumbers) 
   pub same_names : names_of (way_tags x first.way) ≡ names_of (way_tags x second.way)
   pub access_on : access_of x (reverse_of first) ≡ access_of x second
   pub access_back : access_of x (reverse_of second) ≡ access_of x first
-  pub open_to : (mode : ℕ) → HasMode numbers.all mode → Passes x mode n
+  pub open_to : (mode : ℕ) → ShareMode numbers.all mode → Passes x mode n
   pub unmasked_on : IsMaskBit x numbers (reverse_of first) (local_index x second) → ⊥
   pub unmasked_back : IsMaskBit x numbers (reverse_of second) (local_index x first) → ⊥
 
@@ -74,10 +74,10 @@ pub record GoesThrough (x : Extract) (asked : ℕ) (numbers : FormatNumbers) (le
   pub not_back : q ≢ reverse_of p
 
 -- a chain of a level
-pub record IsChain (x : Extract) (asked : ℕ) (numbers : FormatNumbers) (level : ℕ) (chain : List DirectedPiece) : Type 0 where
+pub record IsEdgeChain (x : Extract) (asked : ℕ) (numbers : FormatNumbers) (level : ℕ) (chain : List DirectedPiece) : Type 0 where
   pub start : ℤ
   pub end : ℤ
-  pub leads : Leads (IsEdge x asked level) (piece_start x) (piece_end x) (GoesThrough x asked numbers level) start chain end
+  pub leads : Leads (IsLevelEdge x asked level) (piece_start x) (piece_end x) (GoesThrough x asked numbers level) start chain end
   pub level_is : level ≤ 1
   pub no_circle : start ≢ end
   pub begins : IsContractible x asked numbers level start → ⊥

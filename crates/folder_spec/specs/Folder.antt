@@ -20,13 +20,13 @@ use Rattle.folder_spec.specs.Chains.{piece_level}
 use Rattle.road_pieces.specs.Among.{Among}
 use Rattle.folder_spec.specs.Tables.{first_index}
 use Rattle.graph_id.specs.GraphId.{value_of}
-use Rattle.road_walks.specs.Orders.{number_of, same_numbers}
-use Rattle.road_pieces.specs.Modes.{HasMode}
+use Rattle.road_walks.specs.Orders.{number_of_bits, same_numbers}
+use Rattle.road_pieces.specs.Modes.{ShareMode}
 use Rattle.road_pieces.specs.Walks.{RoadWalk}
 use Rattle.tile_graph.specs.Graphs.{TileWalk}
 use Rattle.tile_graph.specs.Tiles.{InfoFields, TileFields, graph_of_tiles}
 use Rattle.folder_spec.specs.Records.{ToldFields, is_shortcut, tile_from}
-use Rattle.folder_spec.specs.Rows.{keeps_piece, kept_at, is_flagged, links_at, table_of}
+use Rattle.folder_spec.specs.Rows.{keeps_piece, kept_at, is_flagged, links_at, extract_table}
 
 -- ---- numbers
 
@@ -72,7 +72,7 @@ pub record Given : Type 0 where
 -- .. as the turn restrictions and the roads of the extract say
 pub record AreGiven (x : Extract) (given : Given) : Type 0 where
   pub patterns_are : (pattern : List DirectedPiece) (modes : ℕ) → Among given.patterns (pattern, modes) ↔ IsPattern x pattern modes
-  pub not_thru_is : (p : DirectedPiece) → IsPiece x p → (given.not_thru p ≡ true) ↔ IsNotThru x p
+  pub not_thru_is : (p : DirectedPiece) → (given.not_thru p ≡ true) ↔ (IsPiece x p × IsNotThru x p)
 
 -- the elements, each where it first stands
 abbrev pub first_seen : List (List ℕ) → List (List ℕ) → List (List ℕ)
@@ -99,7 +99,7 @@ module _ (x : Extract) (asked : ℕ) (numbers : FormatNumbers) (given : Given) w
 
   -- bit i: the base edge with local index i at the end has a name in common with the piece
   abbrev pub consistency_of : DirectedPiece → ℕ
-  consistency_of p = number_of (λ i. list_any (λ q. nat_eq (local_index x q) i && list_any (λ a. list_any (same_numbers a) (piece_names q)) (piece_names p)) (base_edges x (piece_end x p))) 0 consistency_bits
+  consistency_of p = number_of_bits (λ i. list_any (λ q. nat_eq (local_index x q) i && list_any (λ a. list_any (same_numbers a) (piece_names q)) (piece_names p)) (base_edges x (piece_end x p))) 0 consistency_bits
 
   -- a shortcut passes along the piece
   abbrev pub is_in_chain : DirectedPiece → Bool
@@ -151,7 +151,7 @@ module _ (x : Extract) (asked : ℕ) (numbers : FormatNumbers) (given : Given) w
 
   -- ---- the files
   abbrev pub folder_tiles : List TileFields
-  folder_tiles = map (tile_from x told_fields (table_of x asked numbers given.patterns tile_number) tile_number) (table_of x asked numbers given.patterns tile_number).tiles
+  folder_tiles = map (tile_from x told_fields (extract_table x asked numbers given.patterns tile_number) tile_number) (extract_table x asked numbers given.patterns tile_number).tiles
 
 -- a file's line in `tiles.lst`
 abbrev pub list_line : List ℕ × List ℕ → List ℕ
@@ -172,4 +172,9 @@ pub record IsFolder (spell : TileFields → List ℕ) (report : Extract → ℕ 
 -- The law of the folder: for all numbers of a format and each mode that has a bit in all modes, a road walk exists exactly
 -- where a tile walk over the graph of the folder's tiles does.
 abbrev pub FolderHasWalks : Type 0
-FolderHasWalks = (x : Extract) (asked : ℕ) (numbers : FormatNumbers) (given : Given) → AreGiven x given → (mode : ℕ) → HasMode numbers.all mode → (a b : ℤ) (total : ℕ) → RoadWalk x asked mode a b total ↔ TileWalk (graph_of_tiles (folder_tiles x asked numbers given)) numbers.vehicles mode a b total
+FolderHasWalks = (x : Extract) (asked : ℕ) (numbers : FormatNumbers) (given : Given) → AreGiven x given → (mode : ℕ) → ShareMode numbers.all mode → (a b : ℤ) (total : ℕ) → RoadWalk x asked mode a b total ↔ TileWalk (graph_of_tiles (folder_tiles x asked numbers given)) numbers.vehicles mode a b total
+
+-- The law of one folder: the files are determined by the extract, the asked modes and the numbers of the format, whatever
+-- was given in whatever order.
+abbrev pub OneFolder : Type 0
+OneFolder = (spell : TileFields → List ℕ) (report : Extract → ℕ → List TileFields → List ℕ) (x : Extract) (asked : ℕ) (numbers : FormatNumbers) (files others : List (List ℕ × List ℕ)) → IsFolder spell report x asked numbers files → IsFolder spell report x asked numbers others → files ≡ others

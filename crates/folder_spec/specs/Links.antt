@@ -14,9 +14,9 @@ abbrev pub edges_of : {P : Type 0} → Link P → List P
 edges_of link = link.first ∷ link.more
 
 -- the last of edges that begin with p
-abbrev pub last_of : {P : Type 0} → P → List P → P
-last_of p [] = p
-last_of p (q ∷ qs) = last_of q qs
+abbrev pub last_edge_of : {P : Type 0} → P → List P → P
+last_edge_of p [] = p
+last_edge_of p (q ∷ qs) = last_edge_of q qs
 
 abbrev pub last_edge : {P : Type 0} → Link P → P
-last_edge link = last_of link.first link.more
+last_edge link = last_edge_of link.first link.more

@@ -11,9 +11,9 @@ use Rattle.folder_spec.specs.Links.{Link, base_link, edges_of, last_edge}
 use Rattle.road_walks.specs.BaseEdges.{reverse_of, local_index}
 use Rattle.folder_spec.specs.Chains.{access_of, piece_class, piece_level}
 use Rattle.road_pieces.specs.Pieces.{piece_start}
-use Rattle.road_walks.specs.Orders.{rising, sequence_less}
+use Rattle.road_walks.specs.Orders.{rising, sequence_below}
 use Rattle.folder_spec.specs.FolderWalks.{to_node, link_cm, link_level}
-use Rattle.folder_spec.specs.Tables.{NodeRow, TileRows, Table, first_index, same_link, node_at, node_id, link_id, links_of}
+use Rattle.folder_spec.specs.Tables.{NodeRow, TileRows, RowTable, first_index, same_link, node_row_at, node_graph_id, link_graph_id, links_of}
 use Rattle.tile_graph.specs.Tiles.{InfoFields, TileFields}
 
 -- what is told of nodes and edges beside what walks read
@@ -50,17 +50,17 @@ abbrev pub shortcuts_of : List (Link DirectedPiece) → List (Link DirectedPiece
 shortcuts_of ls = filter is_shortcut ls
 
 -- the words of chains before a link
-abbrev pub words_of : List (Link DirectedPiece) → ℕ
-words_of ls = sum_by (λ l. suc (length (edges_of l))) ls
+abbrev pub chain_words : List (Link DirectedPiece) → ℕ
+chain_words ls = sum_by (λ l. suc (length (edges_of l))) ls
 
-module _ (x : Extract) (told : ToldFields) (t : Table) (tile_of : ℕ → ℤ → ℕ) where
+module _ (x : Extract) (told : ToldFields) (t : RowTable) (tile_of : ℕ → ℤ → ℕ) where
   -- the record of a link: a shortcut has the local index, direction and info of its first edge, and the end, mask, opposing
   -- local index and name consistency of its last one
   abbrev pub edge_fields : TileRows → Link DirectedPiece → EdgeFields
   edge_fields rows l = record {
-    end = node_id t tile_of (to_node x l) (link_level x l);
+    end = node_graph_id t tile_of (to_node x l) (link_level x l);
     mask = t.mask (last_edge l);
-    opposing = first_index (same_link (opposite l)) (node_at t tile_of (to_node x l) (link_level x l)).links;
+    opposing = first_index (same_link (opposite l)) (node_row_at t tile_of (to_node x l) (link_level x l)).links;
     cm = link_cm x l;
     local = local_index x l.first;
     opposing_local = local_index x (reverse_of (last_edge l));
@@ -75,12 +75,12 @@ module _ (x : Extract) (told : ToldFields) (t : Table) (tile_of : ℕ → ℤ �
     class = piece_class x l.first;
     name_consistency = told.consistency (last_edge l);
     info = told.info rows.level rows.tile l.first;
-    chain = if is_shortcut l then words_of (shortcuts_of (take (first_index (same_link l) (links_of rows)) (links_of rows))) else 0;
+    chain = if is_shortcut l then chain_words (shortcuts_of (take (first_index (same_link l) (links_of rows)) (links_of rows))) else 0;
   }
 
   -- the GraphIds of the junction's other nodes
   abbrev pub transitions_of : NodeRow → List ℕ
-  transitions_of r = map (node_id t tile_of r.osm) r.levels
+  transitions_of r = map (node_graph_id t tile_of r.osm) r.levels
 
   -- the record of a node
   abbrev pub node_fields : ℕ → ℕ → NodeRow → NodeFields
@@ -104,8 +104,8 @@ module _ (x : Extract) (told : ToldFields) (t : Table) (tile_of : ℕ → ℤ �
       node_fields edges transitions r ∷ node_records (edges + length r.links) (transitions + length (transitions_of r)) rs
 
   -- a sequence by the GraphIds of its edges
-  abbrev pub sequence_of : List DirectedPiece × ℕ → List ℕ × ℕ
-  sequence_of s = (map (λ p. link_id x t tile_of (base_link p)) s.0, s.1)
+  abbrev pub sequence_row_of : List DirectedPiece × ℕ → List ℕ × ℕ
+  sequence_row_of s = (map (λ p. link_graph_id x t tile_of (base_link p)) s.0, s.1)
 
   -- a sequence that begins with an edge of the tile
   abbrev pub starts_in : TileRows → List DirectedPiece × ℕ → Bool
@@ -121,8 +121,8 @@ module _ (x : Extract) (told : ToldFields) (t : Table) (tile_of : ℕ → ℤ �
     nodes = node_records 0 0 rows.nodes;
     edges = map (edge_fields rows) (links_of rows);
     transitions = flat_map transitions_of rows.nodes;
-    chains = map (λ l. map (λ p. link_id x t tile_of (base_link p)) (edges_of l)) (shortcuts_of (links_of rows));
-    sequences = rising sequence_less (map sequence_of (filter (starts_in rows) t.sequences));
+    chains = map (λ l. map (λ p. link_graph_id x t tile_of (base_link p)) (edges_of l)) (shortcuts_of (links_of rows));
+    sequences = rising sequence_below (map sequence_row_of (filter (starts_in rows) t.sequences));
     infos = told.entries rows.level rows.tile;
     texts = told.texts rows.level rows.tile;
   }

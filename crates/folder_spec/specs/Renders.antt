@@ -4,7 +4,7 @@ use Rattle.std.specs.Int.{IsBitSet}
 use Rattle.std.specs.List.{Contains}
 use Rattle.osm_model.specs.declared.extract.Extract.{Extract}
 use Rattle.road_pieces.specs.DirectedPiece.{DirectedPiece}
-use Rattle.road_pieces.specs.Modes.{HasMode}
+use Rattle.road_pieces.specs.Modes.{ShareMode}
 use Rattle.road_pieces.specs.Rules.{Uses, Passes}
 use Rattle.road_walks.specs.BaseEdges.{FormatNumbers, local_index, IsMaskBit, IsStoredSequence}
 use Rattle.tile_graph.specs.Graphs.{GraphEdge, GraphNode, GraphSequence, Graph, TileWalk}
@@ -19,12 +19,12 @@ pub record Renders (x : Extract) (asked : ℕ) (numbers : FormatNumbers) (g : Gr
   pub node_only : (r : GraphNode) → Contains g.nodes r → (n : ℤ) × ((k : ℕ) × (HasNode x asked n k × (node_row n k ≡ r)))
   pub node_own : (n : ℤ) (k : ℕ) (m : ℤ) (l : ℕ) → HasNode x asked n k → HasNode x asked m l → (node_row n k).id ≡ (node_row m l).id → (n ≡ m) × (k ≡ l)
   pub osm_is : (n : ℤ) (k : ℕ) → HasNode x asked n k → (node_row n k).osm ≡ n
-  pub passes_is : (n : ℤ) (k : ℕ) → HasNode x asked n k → (mode : ℕ) → HasMode (node_row n k).access mode ↔ Passes x mode n
+  pub passes_is : (n : ℤ) (k : ℕ) → HasNode x asked n k → (mode : ℕ) → ShareMode (node_row n k).access mode ↔ Passes x mode n
   pub edge_there : (l : Link DirectedPiece) → AreLinked x asked numbers l.first l.more → Contains (node_row (from_node x l) (link_level x l)).edges (edge_row l)
   pub edge_only : (n : ℤ) (k : ℕ) (e : GraphEdge) → HasNode x asked n k → Contains (node_row n k).edges e → (l : Link DirectedPiece) × (AreLinked x asked numbers l.first l.more × ((from_node x l ≡ n) × ((link_level x l ≡ k) × (edge_row l ≡ e))))
   pub edge_own : (k l : Link DirectedPiece) → AreLinked x asked numbers k.first k.more → AreLinked x asked numbers l.first l.more → (edge_row k).id ≡ (edge_row l).id → k ≡ l
   pub end_is : (l : Link DirectedPiece) → AreLinked x asked numbers l.first l.more → (edge_row l).end ≡ (node_row (to_node x l) (link_level x l)).id
-  pub uses_is : (l : Link DirectedPiece) → AreLinked x asked numbers l.first l.more → (mode : ℕ) → HasMode (edge_row l).access mode ↔ Uses x mode l.first.way l.first.forward
+  pub uses_is : (l : Link DirectedPiece) → AreLinked x asked numbers l.first l.more → (mode : ℕ) → ShareMode (edge_row l).access mode ↔ Uses x mode l.first.way l.first.forward
   pub local_is : (l : Link DirectedPiece) → AreLinked x asked numbers l.first l.more → (edge_row l).local_index ≡ local_index x l.first
   pub mask_is : (l : Link DirectedPiece) → AreLinked x asked numbers l.first l.more → (i : ℕ) → IsBitSet (edge_row l).mask i ↔ IsMaskBit x numbers (last_edge l) i
   pub cm_is : (l : Link DirectedPiece) → AreLinked x asked numbers l.first l.more → (edge_row l).cm ≡ link_cm x l

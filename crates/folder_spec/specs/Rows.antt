@@ -12,13 +12,13 @@ use Rattle.road_walks.specs.Masks.{in_mask}
 use Rattle.road_walks.specs.BaseEdges.{FormatNumbers, directed_pieces, reverse_of, local_index, is_same}
 use Rattle.folder_spec.specs.Chains.{most_chain_edges, most_edge_cm, access_of, piece_level, piece_class}
 use Rattle.folder_spec.specs.FolderWalks.{from_node, to_node, link_cm}
-use Rattle.folder_spec.specs.Tables.{NodeRow, TileRows, Table}
-use Rattle.road_walks.specs.Orders.{not_none, rising, number_of, same_texts}
+use Rattle.folder_spec.specs.Tables.{NodeRow, TileRows, RowTable}
+use Rattle.road_walks.specs.Orders.{not_none, rising, number_of_bits, same_texts}
 
 -- the first element, followed by what it leads to
-abbrev pub first_of : {E : Type 0} → (E → List E) → List E → List E
-first_of more [] = []
-first_of more (e ∷ es) = e ∷ more e
+abbrev pub first_and_more : {E : Type 0} → (E → List E) → List E → List E
+first_and_more more [] = []
+first_and_more more (e ∷ es) = e ∷ more e
 
 -- a pattern of two that starts with e, its modes those of the vehicles, and its second piece with that local index
 abbrev pub tells : Extract → FormatNumbers → DirectedPiece → ℕ → List DirectedPiece × ℕ → Bool
@@ -36,8 +36,8 @@ module _ (x : Extract) (asked : ℕ) (numbers : FormatNumbers) (all : List (List
   abbrev pub kept_at : ℕ → List DirectedPiece
   kept_at k = filter (λ p. keeps_piece p && nat_eq (piece_level x p) k) (directed_pieces x)
 
-  abbrev pub edges_at : ℕ → ℤ → List DirectedPiece
-  edges_at k n = filter (λ p. int_eq (piece_start x p) n) (kept_at k)
+  abbrev pub level_edges_at : ℕ → ℤ → List DirectedPiece
+  level_edges_at k n = filter (λ p. int_eq (piece_start x p) n) (kept_at k)
 
   -- ---- masks and sequences
 
@@ -46,7 +46,7 @@ module _ (x : Extract) (asked : ℕ) (numbers : FormatNumbers) (all : List (List
   has_bit e i = list_any (tells x numbers e i) all
 
   abbrev pub mask_of : DirectedPiece → ℕ
-  mask_of e = number_of (has_bit e) 0 numbers.bits
+  mask_of e = number_of_bits (has_bit e) 0 numbers.bits
 
   -- the patterns that no mask tells; those of which all pieces are kept are stored
   abbrev pub sequence_patterns : List (List DirectedPiece × ℕ)
@@ -87,16 +87,16 @@ module _ (x : Extract) (asked : ℕ) (numbers : FormatNumbers) (all : List (List
 
   -- a node that a shortcut of the level may pass
   abbrev pub is_contractible : ℕ → ℤ → Bool
-  is_contractible k n = are_two n (edges_at k n)
+  is_contractible k n = are_two n (level_edges_at k n)
 
   -- the edges by which a chain may go on, and how it goes on, for at most so many edges
   abbrev pub ways_on : ℕ → DirectedPiece → List DirectedPiece
   ways_on k p =
-      if is_contractible k (piece_end x p) then filter (λ q. not (is_same q p) && not (is_same q (reverse_of p))) (edges_at k (piece_end x p)) else []
+      if is_contractible k (piece_end x p) then filter (λ q. not (is_same q p) && not (is_same q (reverse_of p))) (level_edges_at k (piece_end x p)) else []
 
   abbrev pub chain_on : ℕ → ℕ → DirectedPiece → List DirectedPiece
   chain_on zero k p = []
-  chain_on (suc fuel) k p = first_of (chain_on fuel k) (ways_on k p)
+  chain_on (suc fuel) k p = first_and_more (chain_on fuel k) (ways_on k p)
 
   abbrev pub longest_chain : ℕ → DirectedPiece → Link DirectedPiece
   longest_chain k p = record { first = p; more = chain_on most_chain_edges k p }
@@ -111,11 +111,11 @@ module _ (x : Extract) (asked : ℕ) (numbers : FormatNumbers) (all : List (List
 
   -- the links of a node: its shortcuts by the local index of their first edge, then its kept base edges
   abbrev pub links_at : ℕ → ℤ → List (Link DirectedPiece)
-  links_at k n = filter (is_chain k) (map (longest_chain k) (edges_at k n)) ++ map base_link (edges_at k n)
+  links_at k n = filter (is_chain k) (map (longest_chain k) (level_edges_at k n)) ++ map base_link (level_edges_at k n)
 
   -- the other levels of which an edge starts at the junction
   abbrev pub levels_at : ℕ → ℤ → List ℕ
-  levels_at k n = filter (λ l. not (nat_eq l k) && not_none (edges_at l n)) (0 ∷ (1 ∷ (2 ∷ [])))
+  levels_at k n = filter (λ l. not (nat_eq l k) && not_none (level_edges_at l n)) (0 ∷ (1 ∷ (2 ∷ [])))
 
   abbrev pub row_at : ℕ → ℤ → NodeRow
   row_at k n = record { osm = n; links = links_at k n; levels = levels_at k n }
@@ -134,8 +134,8 @@ module _ (x : Extract) (asked : ℕ) (numbers : FormatNumbers) (all : List (List
   rows_on k = map (rows_of k) (tiles_on k)
 
   -- the table of the extract
-  abbrev pub table_of : Table
-  table_of = record {
+  abbrev pub extract_table : RowTable
+  extract_table = record {
     tiles = flat_map rows_on (0 ∷ (1 ∷ (2 ∷ [])));
     sequences = stored_patterns;
     mask = mask_of;

@@ -14,7 +14,7 @@ use Rattle.road_walks.specs.BaseEdges.{FormatNumbers, local_index, is_same, IsMa
 use Rattle.folder_spec.specs.Chains.{HasNode}
 use Rattle.folder_spec.specs.FolderWalks.{AreLinked, from_node, to_node, link_cm, link_level}
 use Rattle.tile_graph.specs.Graphs.{GraphEdge, GraphNode, GraphSequence, Graph, TileWalk}
-use Rattle.road_pieces.specs.Modes.{HasMode}
+use Rattle.road_pieces.specs.Modes.{ShareMode}
 use Rattle.road_pieces.specs.Walks.{RoadWalk}
 
 -- the index of the first element that passes the test; where there is none, the number of elements
@@ -35,7 +35,7 @@ pub record TileRows : Type 0 where
   pub nodes : List NodeRow
 
 -- the tiles, the stored sequences with their modes, and the mask of each edge
-pub record Table : Type 0 where
+pub record RowTable : Type 0 where
   pub tiles : List TileRows
   pub sequences : List (List DirectedPiece × ℕ)
   pub mask : DirectedPiece → ℕ
@@ -62,11 +62,11 @@ abbrev pub is_node : ℤ → NodeRow → Bool
 is_node n r = int_eq n r.osm
 
 -- the rows of a tile and of a node
-abbrev pub tile_at : Table → ℕ → ℕ → TileRows
+abbrev pub tile_at : RowTable → ℕ → ℕ → TileRows
 tile_at t level tile = get_or t.tiles (first_index (is_tile level tile) t.tiles) no_tile
 
-abbrev pub node_at : Table → (ℕ → ℤ → ℕ) → ℤ → ℕ → NodeRow
-node_at t tile_of n level =
+abbrev pub node_row_at : RowTable → (ℕ → ℤ → ℕ) → ℤ → ℕ → NodeRow
+node_row_at t tile_of n level =
     get_or (tile_at t level (tile_of level n)).nodes (first_index (is_node n) (tile_at t level (tile_of level n)).nodes) no_node
 
 -- the links of a tile in order
@@ -74,47 +74,47 @@ abbrev pub links_of : TileRows → List (Link DirectedPiece)
 links_of rows = flat_map (λ r. r.links) rows.nodes
 
 -- the GraphId of a junction's node on a level, and of a link
-abbrev pub node_id : Table → (ℕ → ℤ → ℕ) → ℤ → ℕ → ℕ
-node_id t tile_of n level =
+abbrev pub node_graph_id : RowTable → (ℕ → ℤ → ℕ) → ℤ → ℕ → ℕ
+node_graph_id t tile_of n level =
     value_of level (tile_of level n) (first_index (is_node n) (tile_at t level (tile_of level n)).nodes)
 
-abbrev pub link_id : Extract → Table → (ℕ → ℤ → ℕ) → Link DirectedPiece → ℕ
-link_id x t tile_of l =
+abbrev pub link_graph_id : Extract → RowTable → (ℕ → ℤ → ℕ) → Link DirectedPiece → ℕ
+link_graph_id x t tile_of l =
     value_of (link_level x l) (tile_of (link_level x l) (from_node x l)) (first_index (same_link l) (links_of (tile_at t (link_level x l) (tile_of (link_level x l) (from_node x l)))))
 
 -- the records of a link, of a node and of a sequence
-abbrev pub edge_row : Extract → Table → (ℕ → ℤ → ℕ) → Link DirectedPiece → GraphEdge
+abbrev pub edge_row : Extract → RowTable → (ℕ → ℤ → ℕ) → Link DirectedPiece → GraphEdge
 edge_row x t tile_of l = record {
-  id = link_id x t tile_of l;
-  end = node_id t tile_of (to_node x l) (link_level x l);
+  id = link_graph_id x t tile_of l;
+  end = node_graph_id t tile_of (to_node x l) (link_level x l);
   mask = t.mask (last_edge l);
   local_index = local_index x l.first;
   access = way_access x l.first.way l.first.forward;
   cm = link_cm x l;
 }
 
-abbrev pub node_row : Extract → Table → (ℕ → ℤ → ℕ) → ℤ → ℕ → GraphNode
+abbrev pub node_row : Extract → RowTable → (ℕ → ℤ → ℕ) → ℤ → ℕ → GraphNode
 node_row x t tile_of n level = record {
-  id = node_id t tile_of n level;
+  id = node_graph_id t tile_of n level;
   osm = n;
   access = node_access (node_tags x n);
-  edges = map (edge_row x t tile_of) (node_at t tile_of n level).links;
-  transitions = map (node_id t tile_of n) (node_at t tile_of n level).levels;
+  edges = map (edge_row x t tile_of) (node_row_at t tile_of n level).links;
+  transitions = map (node_graph_id t tile_of n) (node_row_at t tile_of n level).levels;
 }
 
-abbrev pub sequence_row : Extract → Table → (ℕ → ℤ → ℕ) → List DirectedPiece × ℕ → GraphSequence
+abbrev pub sequence_row : Extract → RowTable → (ℕ → ℤ → ℕ) → List DirectedPiece × ℕ → GraphSequence
 sequence_row x t tile_of s =
-    record { edges = map (λ p. link_id x t tile_of (base_link p)) s.0; modes = s.1 }
+    record { edges = map (λ p. link_graph_id x t tile_of (base_link p)) s.0; modes = s.1 }
 
 -- the graph of a table
-abbrev pub graph_of : Extract → Table → (ℕ → ℤ → ℕ) → Graph
+abbrev pub graph_of : Extract → RowTable → (ℕ → ℤ → ℕ) → Graph
 graph_of x t tile_of = record {
   nodes = flat_map (λ rows. map (λ r. node_row x t tile_of r.osm rows.level) rows.nodes) t.tiles;
   sequences = map (sequence_row x t tile_of) t.sequences;
 }
 
 -- where a node stands in a table
-pub record IsRowOf (t : Table) (tile_of : ℕ → ℤ → ℕ) (n : ℤ) (level : ℕ) : Type 0 where
+pub record IsRowOf (t : RowTable) (tile_of : ℕ → ℤ → ℕ) (n : ℤ) (level : ℕ) : Type 0 where
   pub rows : TileRows
   pub row : NodeRow
   pub there : Among t.tiles rows
@@ -128,7 +128,7 @@ abbrev pub tile_limit : ℕ
 tile_limit = 4_194_304
 
 -- the table of an extract: what stands in it, and that it stands once; the order isn't said here
-pub record IsTable (x : Extract) (asked : ℕ) (numbers : FormatNumbers) (tile_of : ℕ → ℤ → ℕ) (t : Table) : Type 0 where
+pub record IsExtractTable (x : Extract) (asked : ℕ) (numbers : FormatNumbers) (tile_of : ℕ → ℤ → ℕ) (t : RowTable) : Type 0 where
   pub node_there : (n : ℤ) (level : ℕ) → HasNode x asked n level → IsRowOf t tile_of n level
   pub node_is : (rows : TileRows) (r : NodeRow) → Among t.tiles rows → Among rows.nodes r → HasNode x asked r.osm rows.level
   pub tiles_own : (rows other : TileRows) → Among t.tiles rows → Among t.tiles other → rows.level ≡ other.level → rows.tile ≡ other.tile → rows ≡ other
@@ -141,4 +141,4 @@ pub record IsTable (x : Extract) (asked : ℕ) (numbers : FormatNumbers) (tile_o
 
 -- The law of tables: for the graph of the extract's table, a road walk exactly where a tile walk
 abbrev pub SameTableWalks : Type 0
-SameTableWalks = (x : Extract) (asked : ℕ) (numbers : FormatNumbers) (tile_of : ℕ → ℤ → ℕ) (t : Table) → IsTable x asked numbers tile_of t → (mode : ℕ) → HasMode numbers.all mode → (a b : ℤ) (total : ℕ) → RoadWalk x asked mode a b total ↔ TileWalk (graph_of x t tile_of) numbers.vehicles mode a b total
+SameTableWalks = (x : Extract) (asked : ℕ) (numbers : FormatNumbers) (tile_of : ℕ → ℤ → ℕ) (t : RowTable) → IsExtractTable x asked numbers tile_of t → (mode : ℕ) → ShareMode numbers.all mode → (a b : ℤ) (total : ℕ) → RoadWalk x asked mode a b total ↔ TileWalk (graph_of x t tile_of) numbers.vehicles mode a b total

@@ -1,6 +1,6 @@
 //! Laws of what a folder holds, which hold by the definitions alone.
 
-ghost use Rattle.folder_spec.specs.Folder.{FolderHasWalks};
+ghost use Rattle.folder_spec.specs.Folder.{FolderHasWalks, OneFolder};
 ghost use Rattle.folder_spec.specs.FolderLaws.{BaseGivesRoads, RowsInOrder, SameFolderWalks, SameGraph, SameRows};
 ghost use Rattle.folder_spec.specs.FolderWalks.{SameLevels, SameLinks, SameRoads};
 ghost use Rattle.folder_spec.specs.Renders.{SameTiles};
@@ -10,6 +10,11 @@ ghost use Rattle.folder_spec.specs.Tables.{SameTableWalks};
 /// and each length, there is a road walk exactly where there is a walk over the graph of the folder's tiles.
 pub fn folder_has_walks()
     ensures { FolderHasWalks }
+{}
+
+/// There is at most one folder for each extract, asked modes and numbers of a format.
+pub fn one_folder()
+    ensures { OneFolder }
 {}
 
 /// The same from the rows alone, for any tile numbers and whatever is told beside the walks.

@@ -4,6 +4,6 @@
 mod laws;
 
 pub use laws::{
-    folder_has_walks, folder_walks_agree, graph_agrees, levels_agree, links_agree, roads_agree,
-    roads_from_lists, rows_agree, rows_in_order, table_walks_agree, tiles_agree,
+    folder_has_walks, folder_walks_agree, graph_agrees, levels_agree, links_agree, one_folder,
+    roads_agree, roads_from_lists, rows_agree, rows_in_order, table_walks_agree, tiles_agree,
 };

@@ -4,7 +4,7 @@ use Rattle.std.proofs.lemmas.List.Elements.{All-cons, All-nil, All-contains}
 use Rattle.osm_model.specs.declared.extract.Extract.{Extract}
 use Rattle.road_pieces.specs.declared.steps.Step.{Step}
 use Rattle.road_pieces.specs.DirectedPiece.{DirectedPiece}
-use Rattle.road_pieces.specs.Modes.{all_modes, IsMode, HasMode}
+use Rattle.road_pieces.specs.Modes.{all_mode_bits, IsMode, ShareMode}
 use Rattle.road_pieces.specs.Rules.{is_barrier, node_tags, Keeps, Uses, Passes, forward_access, backward_access, node_access}
 use Rattle.road_pieces.specs.Matches.{Forbids, IsPatternOf, turn_rules}
 use Rattle.road_pieces.specs.Runs.{is_junction}
@@ -16,11 +16,11 @@ use Rattle.road_pieces.proofs.Barriers.{plain_inside}
 use Rattle.road_pieces.proofs.TurnPatterns.{pattern_of_turn}
 
 -- a node without a barrier is closed to no mode that may use some way
-open_node : (x : Extract) (mode : ℕ) (node : ℤ) → is_barrier (node_tags x node) ≡ false → HasMode all_modes mode → Passes x mode node
+open_node : (x : Extract) (mode : ℕ) (node : ℤ) → is_barrier (node_tags x node) ≡ false → ShareMode all_mode_bits mode → Passes x mode node
 unfolding node_access
 open_node x mode node plain has = has
 
-of_all : (x : Extract) (mode : ℕ) (way : ℤ) (forward : Bool) → Uses x mode way forward → HasMode all_modes mode
+of_all : (x : Extract) (mode : ℕ) (way : ℤ) (forward : Bool) → Uses x mode way forward → ShareMode all_mode_bits mode
 unfolding forward_access backward_access
 of_all x mode way true uses = uses
 of_all x mode way false uses = uses
@@ -37,29 +37,29 @@ pattern_of x mode turn (row, (there, (usable, (has, forbidden)))) =
     (pattern, ((row.modes, record { row = row; there = there; usable = usable; modes_are = refl; turn = turn; forbidden = forbidden; written = written }, has), written))
 
 pub turn_of : (x : Extract) (mode : ℕ) (pattern : List DirectedPiece) → IsPatternOf x mode pattern → (turn : List Step) × (Forbids x mode turn × Written x turn pattern)
-turn_of x mode pattern (modes, is, has) = (is.turn, ((is.row, (is.there, (is.usable, (subst (λ m. HasMode m mode) is.modes_are has, is.forbidden)))), is.written))
+turn_of x mode pattern (modes, is, has) = (is.turn, ((is.row, (is.there, (is.usable, (subst (λ m. ShareMode m mode) is.modes_are has, is.forbidden)))), is.written))
 
 -- where all modes are asked, each piece is open to each mode in both directions, each node may be passed, and
 -- nothing is forbidden
-all_have : (mode : ℕ) → IsMode mode → HasMode all_modes mode
+all_have : (mode : ℕ) → IsMode mode → ShareMode all_mode_bits mode
 all_have mode one =
-    All-contains (HasMode all_modes) (1 ∷ 2 ∷ 4 ∷ 8 ∷ 64 ∷ []) mode
-    (All-cons (HasMode all_modes) 1 (2 ∷ 4 ∷ 8 ∷ 64 ∷ []) (λ h. omega (arith, h))
-    (All-cons (HasMode all_modes) 2 (4 ∷ 8 ∷ 64 ∷ []) (λ h. omega (arith, h))
-    (All-cons (HasMode all_modes) 4 (8 ∷ 64 ∷ []) (λ h. omega (arith, h))
-    (All-cons (HasMode all_modes) 8 (64 ∷ []) (λ h. omega (arith, h))
-    (All-cons (HasMode all_modes) 64 [] (λ h. omega (arith, h)) (All-nil (HasMode all_modes))))))) one
+    All-contains (ShareMode all_mode_bits) (1 ∷ 2 ∷ 4 ∷ 8 ∷ 64 ∷ []) mode
+    (All-cons (ShareMode all_mode_bits) 1 (2 ∷ 4 ∷ 8 ∷ 64 ∷ []) (λ h. omega (arith, h))
+    (All-cons (ShareMode all_mode_bits) 2 (4 ∷ 8 ∷ 64 ∷ []) (λ h. omega (arith, h))
+    (All-cons (ShareMode all_mode_bits) 4 (8 ∷ 64 ∷ []) (λ h. omega (arith, h))
+    (All-cons (ShareMode all_mode_bits) 8 (64 ∷ []) (λ h. omega (arith, h))
+    (All-cons (ShareMode all_mode_bits) 64 [] (λ h. omega (arith, h)) (All-nil (ShareMode all_mode_bits))))))) one
 
-all_keep : (x : Extract) (way : ℤ) → Keeps x all_modes way
+all_keep : (x : Extract) (way : ℤ) → Keeps x all_mode_bits way
 unfolding forward_access backward_access
 all_keep x way = λ h. omega (arith, h)
 
-all_use : (x : Extract) (mode : ℕ) (way : ℤ) (forward : Bool) → HasMode all_modes mode → Uses x mode way forward
+all_use : (x : Extract) (mode : ℕ) (way : ℤ) (forward : Bool) → ShareMode all_mode_bits mode → Uses x mode way forward
 unfolding forward_access backward_access
 all_use x mode way true has = has
 all_use x mode way false has = has
 
-pub open_to_all : (x : Extract) (mode : ℕ) (p : DirectedPiece) → IsMode mode → IsPiece x p → MayRide x all_modes mode p
+pub open_to_all : (x : Extract) (mode : ℕ) (p : DirectedPiece) → IsMode mode → IsPiece x p → MayRide x all_mode_bits mode p
 open_to_all x mode p one is =
     record { exists = is; may = (all_keep x p.way, all_use x mode p.way p.forward (all_have mode one)) }
 

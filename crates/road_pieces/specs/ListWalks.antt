@@ -3,7 +3,7 @@ use Rattle.std.specs.Prelude.{◌≡◌, ◌↔◌, ⊤, ℕ, ℤ, Bool, true, L
 use Rattle.std.specs.List.{Contains}
 use Rattle.osm_model.specs.declared.extract.Extract.{Extract}
 use Rattle.road_pieces.specs.declared.rows.Piece.{Piece}
-use Rattle.road_pieces.specs.Modes.{all_modes, IsMode}
+use Rattle.road_pieces.specs.Modes.{all_mode_bits, IsMode}
 use Rattle.road_pieces.specs.Paths.{Leads}
 use Rattle.road_pieces.specs.Runs.{is_junction}
 use Rattle.road_pieces.specs.Rows.{piece_rows}
@@ -43,4 +43,4 @@ pub record PlainWalk (pieces : List ListedPiece) (a b : ℤ) (total : ℕ) : Typ
 -- The law of listed pieces: where all modes are asked, the roads, walked by single segments, have between two
 -- junctions exactly the walks that their pieces have, told by starts, ends and lengths.
 abbrev pub ListsWalks : Type 0
-ListsWalks = (x : Extract) (mode : ℕ) → IsMode mode → (a b : ℤ) → is_junction x a ≡ true → is_junction x b ≡ true → (total : ℕ) → RoadWalk x all_modes mode a b total ↔ PlainWalk (map listed (piece_rows x)) a b total
+ListsWalks = (x : Extract) (mode : ℕ) → IsMode mode → (a b : ℤ) → is_junction x a ≡ true → is_junction x b ≡ true → (total : ℕ) → RoadWalk x all_mode_bits mode a b total ↔ PlainWalk (map listed (piece_rows x)) a b total

@@ -4,7 +4,7 @@ use Rattle.std.specs.List.{flat_map, Contains}
 use Rattle.osm_model.specs.declared.extract.Extract.{Extract}
 use Rattle.road_pieces.specs.declared.steps.Step.{Step}
 use Rattle.road_pieces.specs.DirectedPiece.{DirectedPiece}
-use Rattle.road_pieces.specs.Modes.{HasMode}
+use Rattle.road_pieces.specs.Modes.{ShareMode}
 use Rattle.road_pieces.specs.Paths.{Leads}
 use Rattle.road_pieces.specs.Following.{AllFollow}
 use Rattle.road_pieces.specs.Runs.{run, is_junction}
@@ -115,7 +115,7 @@ pub record IsUsable (x : Extract) (row : TurnRule) : Type 0 where
 
 -- a usable row forbids the list to the mode
 abbrev pub Forbids : Extract → ℕ → List Step → Type 0
-Forbids x mode list = (row : TurnRule) × (Contains (turn_rules x) row × (IsUsable x row × (HasMode row.modes mode × Forbidden x row list)))
+Forbids x mode list = (row : TurnRule) × (Contains (turn_rules x) row × (IsUsable x row × (ShareMode row.modes mode × Forbidden x row list)))
 
 -- a pattern of a usable row with its modes
 pub record IsPattern (x : Extract) (pattern : List DirectedPiece) (modes : ℕ) : Type 0 where
@@ -128,4 +128,4 @@ pub record IsPattern (x : Extract) (pattern : List DirectedPiece) (modes : ℕ) 
   pub written : Written x turn pattern
 
 abbrev pub IsPatternOf : Extract → ℕ → List DirectedPiece → Type 0
-IsPatternOf x mode pattern = (modes : ℕ) × IsPattern x pattern modes × HasMode modes mode
+IsPatternOf x mode pattern = (modes : ℕ) × IsPattern x pattern modes × ShareMode modes mode

@@ -3,17 +3,17 @@ use Rattle.std.specs.Prelude.{ℕ, ◌≢◌, bit_and, [], ◌∷◌}
 use Rattle.std.specs.List.{Contains}
 
 -- all modes
-abbrev pub all_modes : ℕ
-all_modes = 79
+abbrev pub all_mode_bits : ℕ
+all_mode_bits = 79
 
 -- the modes of vehicles: all but the pedestrian
-abbrev pub vehicle_modes : ℕ
-vehicle_modes = 77
+abbrev pub vehicle_mode_bits : ℕ
+vehicle_mode_bits = 77
 
 -- the bit of one mode
 abbrev pub IsMode : ℕ → Type 0
 IsMode mode = Contains (1 ∷ 2 ∷ 4 ∷ 8 ∷ 64 ∷ []) mode
 
 -- the modes have the mode; where the second number has more bits, as the modes that are asked, they have one of these
-abbrev pub HasMode : ℕ → ℕ → Type 0
-HasMode modes mode = bit_and modes mode ≢ 0
+abbrev pub ShareMode : ℕ → ℕ → Type 0
+ShareMode modes mode = bit_and modes mode ≢ 0

@@ -8,7 +8,7 @@ use Rattle.std.specs.Str.{bytes_eq}
 use Rattle.osm_model.specs.declared.tags.Tag.{Tag}
 use Rattle.osm_model.specs.declared.extract.Extract.{Extract}
 use Rattle.osm_model.specs.Tags.{value_of}
-use Rattle.road_pieces.specs.Modes.{all_modes, HasMode}
+use Rattle.road_pieces.specs.Modes.{all_mode_bits, ShareMode}
 
 -- a way is part of the roads
 abbrev pub is_routable : List Tag → Bool
@@ -26,13 +26,13 @@ class_of tags = 6
 
 -- the modes that may use a routable way forward and backward, and pass a node
 unfoldable pub forward_access : List Tag → ℕ
-forward_access tags = all_modes
+forward_access tags = all_mode_bits
 
 unfoldable pub backward_access : List Tag → ℕ
-backward_access tags = all_modes
+backward_access tags = all_mode_bits
 
 unfoldable pub node_access : List Tag → ℕ
-node_access tags = all_modes
+node_access tags = all_mode_bits
 
 -- the names of a way
 unfoldable pub names_of : List Tag → List (List ℕ)
@@ -51,12 +51,12 @@ way_access x way forward = if forward then forward_access (way_tags x way) else 
 
 -- a way is open to one of the asked modes in some direction
 abbrev pub Keeps : Extract → ℕ → ℤ → Type 0
-Keeps x asked way = HasMode (bit_or (way_access x way true) (way_access x way false)) asked
+Keeps x asked way = ShareMode (bit_or (way_access x way true) (way_access x way false)) asked
 
 -- a mode may use a way in a direction
 abbrev pub Uses : Extract → ℕ → ℤ → Bool → Type 0
-Uses x mode way forward = HasMode (way_access x way forward) mode
+Uses x mode way forward = ShareMode (way_access x way forward) mode
 
 -- a mode may pass a node
 abbrev pub Passes : Extract → ℕ → ℤ → Type 0
-Passes x mode node = HasMode (node_access (node_tags x node)) mode
+Passes x mode node = ShareMode (node_access (node_tags x node)) mode

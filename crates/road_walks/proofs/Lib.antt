@@ -1,5 +1,6 @@
 pub mod Reverses
 pub mod Locals
+pub mod ToldPatterns
 pub mod MaskLaw
 pub mod EdgeAgree
 pub mod PatternsAgree
@@ -7,6 +8,7 @@ pub mod Stretches
 pub mod PieceMatchLaw
 pub mod ReadingLaw
 pub mod Sorted
+pub mod SequenceOrder
 pub mod PiecesAre
 pub mod PiecesOnce
 pub mod ListedLaws

@@ -10,7 +10,7 @@ use Rattle.road_pieces.proofs.Fits.{pattern_of, turn_of}
 use Rattle.road_pieces.proofs.Agree.{same_turns}
 use Rattle.road_pieces.proofs.Lists.{all_weaken, all_in, leads_all}
 use Rattle.road_pieces.proofs.PatternLeads.{pattern_joined}
-use Rattle.road_walks.specs.BaseEdges.{FormatNumbers, local_index, IsKept, IsMaskBit}
+use Rattle.road_walks.specs.BaseEdges.{FormatNumbers, local_index, IsKeptPiece, IsMaskBit}
 use Rattle.road_walks.specs.EdgeWalks.{MayFollowOn}
 use Rattle.road_walks.specs.PatternLaws.{HasForbiddenSteps, HasPattern, PatternsTell, MasksTell, SequencesTell}
 use Rattle.road_walks.proofs.EdgeAgree.{kept_of}
@@ -41,5 +41,5 @@ masks_tell x numbers e f is begins =
 
 pub sequences_tell : SequencesTell
 sequences_tell x asked numbers mode a b edges leads pattern modes is stands =
-    all_in (IsKept x asked) pattern edges stands
-    (all_weaken (MayRide x asked mode) (IsKept x asked) edges (kept_of x asked numbers mode) (leads_all (MayRide x asked mode) (piece_start x) (piece_end x) (MayFollowOn x numbers mode) edges a b leads))
+    all_in (IsKeptPiece x asked) pattern edges stands
+    (all_weaken (MayRide x asked mode) (IsKeptPiece x asked) edges (kept_of x asked numbers mode) (leads_all (MayRide x asked mode) (piece_start x) (piece_end x) (MayFollowOn x numbers mode) edges a b leads))

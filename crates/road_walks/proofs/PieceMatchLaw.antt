@@ -24,7 +24,7 @@ use Rattle.road_pieces.proofs.Agree.{start_at}
 use Rattle.road_pieces.proofs.TurnPatterns.{leads_after, leads_front, begins_at, by_kind}
 use Rattle.road_pieces.proofs.PatternLeads.{piece_begins, piece_ends}
 use Rattle.road_walks.specs.BaseEdges.{reverse_of}
-use Rattle.road_walks.specs.PieceMatches.{PieceGoesOn, IsPart, AreParts, PieceTurnsBack, AreViaParts, IsPieceMatch, IsPieceOther, PieceForbidden, PiecesTell}
+use Rattle.road_walks.specs.PieceMatches.{PieceGoesOn, IsPart, ArePieceParts, PieceTurnsBack, AreViaParts, IsPieceMatch, IsPieceOther, PieceForbidden, PiecesTell}
 use Rattle.road_walks.proofs.Reverses.{back_starts}
 use Rattle.road_walks.proofs.Stretches.{step, first_at, last_at, runs, pieces_go_on, steps_go_on}
 
@@ -150,13 +150,13 @@ module _ (x : Extract) where
       let (before, (s, (e, there))) = part_ends q ps (All-tail (IsPiece x) p (q ∷ ps) are) in
       (steps p ++ before, (s, (ap (λ l. steps p ++ l) e ∙ sym (append_assoc (steps p) before (s ∷ [])), there)))
 
-  stretches : (ways : List ℤ) (parts : List (List DirectedPiece)) → All (IsPiece x) (flat parts) → AreParts ways parts → AreStretches x ways (map (flat_map steps) parts)
+  stretches : (ways : List ℤ) (parts : List (List DirectedPiece)) → All (IsPiece x) (flat parts) → ArePieceParts ways parts → AreStretches x ways (map (flat_map steps) parts)
   stretches [] parts are is = ap (map (flat_map steps)) is
   stretches (way ∷ ways) [] are is = is
   stretches (way ∷ ways) (part ∷ parts) are is =
       (stretch_of way part (all_front (IsPiece x) part (flat parts) are) is.0, stretches ways parts (all_back (IsPiece x) part (flat parts) are) is.1)
 
-  changes : (ways : List ℤ) (parts : List (List DirectedPiece)) → All (IsPiece x) (flat parts) → AreParts ways parts → All (EndsAtJunction x) (map (flat_map steps) parts)
+  changes : (ways : List ℤ) (parts : List (List DirectedPiece)) → All (IsPiece x) (flat parts) → ArePieceParts ways parts → All (EndsAtJunction x) (map (flat_map steps) parts)
   changes [] parts are is =
       subst (λ l. All (EndsAtJunction x) (map (flat_map steps) l)) (sym is) (All-nil (EndsAtJunction x))
   changes (way ∷ ways) [] are is = absurd is
@@ -264,7 +264,7 @@ module _ (x : Extract) where
       let none : f.left ≡ [] = none_left f.left (all_back (IsPiece x) ps f.left (subst (All (IsPiece x)) f.is are)) f.rest in
       f.is ∙ (ap (λ l. ps ++ l) none ∙ append-nil ps)
 
-  split_parts : (ways : List ℤ) (parts : List (List Step)) (between : List DirectedPiece) (last : Step) (a b : ℤ) → is_junction x a ≡ true → All (IsPiece x) between → StepsLead a (flat parts ++ last ∷ []) b → All (EndsAtJunction x) parts → AreStretches x ways parts → flat_map steps between ≡ flat parts → (pss : List (List DirectedPiece)) × ((flat pss ≡ between) × AreParts ways pss)
+  split_parts : (ways : List ℤ) (parts : List (List Step)) (between : List DirectedPiece) (last : Step) (a b : ℤ) → is_junction x a ≡ true → All (IsPiece x) between → StepsLead a (flat parts ++ last ∷ []) b → All (EndsAtJunction x) parts → AreStretches x ways parts → flat_map steps between ≡ flat parts → (pss : List (List DirectedPiece)) × ((flat pss ≡ between) × ArePieceParts ways pss)
   split_parts [] parts between last a b here are lead ends is e =
       ([], (sym (none_left between are (e ∙ ap flat is)), refl))
   split_parts (way ∷ ways) [] between last a b here are lead ends is e = absurd is

@@ -8,8 +8,8 @@ use Rattle.road_pieces.specs.Paths.{Follows, Leads}
 use Rattle.road_pieces.specs.Following.{AllFollow}
 use Rattle.road_pieces.specs.Pieces.{IsPiece, piece_start, piece_end}
 use Rattle.road_pieces.specs.Matches.{via_ways, TurnRule}
-use Rattle.road_walks.specs.PieceMatches.{PieceGoesOn, AreParts, AreViaParts, IsPieceMatch}
-use Rattle.road_walks.specs.Readings.{Completes, ends, goes, begins, IsReading, SameReadings}
+use Rattle.road_walks.specs.PieceMatches.{PieceGoesOn, ArePieceParts, AreViaParts, IsPieceMatch}
+use Rattle.road_walks.specs.Readings.{Completes, ends, goes, begins, IsMatchReading, SameReadings}
 
 abbrev flat : List (List DirectedPiece) → List DirectedPiece
 flat parts = flat_map (λ part. part) parts
@@ -28,7 +28,7 @@ module _ (x : Extract) (tos : List ℤ) where
   along_part (m ∷ more) q rest b ways go lead after =
       goes ways q m (more ++ rest) (record { exists = lead.0; begins = lead.1 }) go.0 (along_part more m rest b ways go.1 lead.3 after)
 
-  completes_from : (ways : List ℤ) (parts : List (List DirectedPiece)) (last : DirectedPiece) (b : ℤ) → AreParts ways parts → Contains tos last.way → (p : DirectedPiece) → PiecesLead (piece_end x p) (flat parts ++ last ∷ []) b → Completes x tos ways p (flat parts ++ last ∷ [])
+  completes_from : (ways : List ℤ) (parts : List (List DirectedPiece)) (last : DirectedPiece) (b : ℤ) → ArePieceParts ways parts → Contains tos last.way → (p : DirectedPiece) → PiecesLead (piece_end x p) (flat parts ++ last ∷ []) b → Completes x tos ways p (flat parts ++ last ∷ [])
   completes_from [] parts last b is to p lead =
       subst (λ l. Completes x tos [] p (flat l ++ last ∷ [])) (sym is)
       (let short : PiecesLead (piece_end x p) (last ∷ []) b = subst (λ l. PiecesLead (piece_end x p) (flat l ++ last ∷ []) b) is lead in ends p last (record { exists = short.0; begins = short.1 }) to)
@@ -49,7 +49,7 @@ module _ (x : Extract) (tos : List ℤ) where
     last : DirectedPiece
     is : list ≡ more ++ (flat parts ++ last ∷ [])
     go : AllFollow PieceGoesOn (p ∷ more)
-    are : AreParts ways parts
+    are : ArePieceParts ways parts
     to : Contains tos last.way
     leads : PiecesLead (piece_end x p) list (piece_end x last)
 
@@ -90,10 +90,10 @@ module _ (x : Extract) (tos : List ℤ) where
       }
 
 module _ (x : Extract) (row : TurnRule) (way : ℤ) (ways : List ℤ) (via : row.via ≡ via_ways (way ∷ ways)) where
-  reading : (pattern : List DirectedPiece) → IsPieceMatch x row pattern → IsReading x row way ways pattern
+  reading : (pattern : List DirectedPiece) → IsPieceMatch x row pattern → IsMatchReading x row way ways pattern
   reading pattern m = by m.parts m.is (subst (λ v. AreViaParts x row.u_turn v m.first m.parts m.last) via m.via)
     where
-      by : (parts : List (List DirectedPiece)) → pattern ≡ m.first ∷ (flat parts ++ m.last ∷ []) → AreParts (way ∷ ways) parts → IsReading x row way ways pattern
+      by : (parts : List (List DirectedPiece)) → pattern ≡ m.first ∷ (flat parts ++ m.last ∷ []) → ArePieceParts (way ∷ ways) parts → IsMatchReading x row way ways pattern
       by [] is are = absurd are
       by (part ∷ parts) is are =
           let second : DirectedPiece = are.0.first in
@@ -114,7 +114,7 @@ module _ (x : Extract) (row : TurnRule) (way : ℤ) (ways : List ℤ) (via : row
             completes = along_part x row.to are.0.rest second more (piece_end x m.last) ways (subst (AllFollow PieceGoesOn) are.0.is are.0.goes_on) lead.3.3 (λ q short. completes_from x row.to ways parts m.last (piece_end x m.last) are.1 m.to q short);
           }
 
-  match_of : (pattern : List DirectedPiece) → IsReading x row way ways pattern → IsPieceMatch x row pattern
+  match_of : (pattern : List DirectedPiece) → IsMatchReading x row way ways pattern → IsPieceMatch x row pattern
   match_of pattern r =
       let found : Parted x row.to ways r.second r.rest = parted x row.to ways r.second r.rest r.completes in
       record {

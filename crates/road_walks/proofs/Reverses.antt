@@ -4,7 +4,7 @@ use Rattle.osm_model.specs.declared.extract.Extract.{Extract}
 use Rattle.road_pieces.specs.DirectedPiece.{DirectedPiece}
 use Rattle.road_pieces.specs.Steps.{node}
 use Rattle.road_pieces.specs.Pieces.{piece_start, piece_end}
-use Rattle.road_walks.specs.BaseEdges.{reverse_of, IsKept}
+use Rattle.road_walks.specs.BaseEdges.{reverse_of, IsKeptPiece}
 
 not_not : (b : Bool) → not (not b) ≡ b
 not_not true = refl
@@ -21,7 +21,7 @@ flip_cond false u v = refl
 pub back_starts : (x : Extract) (p : DirectedPiece) → piece_start x (reverse_of p) ≡ piece_end x p
 back_starts x p = ap (node x p.way p.run) (flip_cond p.forward p.from p.to)
 
-pub kept_back : (x : Extract) (asked : ℕ) (p : DirectedPiece) → IsKept x asked p → IsKept x asked (reverse_of p)
+pub kept_back : (x : Extract) (asked : ℕ) (p : DirectedPiece) → IsKeptPiece x asked p → IsKeptPiece x asked (reverse_of p)
 kept_back x asked p is = record {
   exists = record { rises = is.exists.rises; inside = is.exists.inside; begins = is.exists.begins; ends = is.exists.ends; plain = is.exists.plain };
   kept = is.kept;

@@ -5,7 +5,7 @@ use Rattle.std.specs.List.{list_any}
 use Rattle.std.proofs.lemmas.Bool.{both_ways, and_parts, eqb-true, eq-eqb, or_parts, ltb-true, lt-ltb, ltb-false}
 use Rattle.road_pieces.proofs.Members.{IsIn, of_append, of_map, in_from_among, among_from_in}
 use Rattle.road_pieces.specs.Among.{Among, Once}
-use Rattle.road_walks.specs.Orders.{put_in, rising, list_less, same_numbers, sequence_less}
+use Rattle.road_walks.specs.Orders.{put_in, rising, list_less, same_numbers, sequence_below}
 
 -- ---- lists
 
@@ -93,7 +93,7 @@ pub same_self : (ns : List ℕ) → same_numbers ns ns ≡ true
 same_self [] = refl
 same_self (n ∷ ns) = Rattle.road_walks.proofs.Locals.and_both _ _ (eq-eqb n n refl) (same_self ns)
 
-pub sequences_connected : (s t : List ℕ × ℕ) → sequence_less s t ≡ false → sequence_less t s ≡ false → s ≡ t
+pub sequences_connected : (s t : List ℕ × ℕ) → sequence_below s t ≡ false → sequence_below t s ≡ false → s ≡ t
 sequences_connected (ns, a) (ms, b) p q =
     let (one, two) = or_parts (list_less ns ms) (same_numbers ns ms && nat_lt a b) p in
     let (three, four) = or_parts (list_less ms ns) (same_numbers ms ns && nat_lt b a) q in

@@ -13,7 +13,7 @@ use Rattle.road_pieces.specs.DirectedPiece.{DirectedPiece}
 use Rattle.road_pieces.specs.Pieces.{piece_start}
 use Rattle.road_walks.proofs.Locals.{in_filter}
 use Rattle.road_walks.specs.Orders.{not_none}
-use Rattle.road_walks.specs.Stages.{nodes_by, tiles_by, edges_by, stage_node, stage_tile, stage, keep_row, keep_tile, KeepsStage, AreAlikeEdges, StagesAlike, stage_edges, LiftsStage}
+use Rattle.road_walks.specs.Stages.{nodes_by, stage_tiles, edges_by, stage_node, stage_tile, stage, keep_row, keep_tile, KeepsStage, AreAlikeEdges, StagesAlike, stage_edges, LiftsStage}
 use Rattle.road_walks.proofs.Sorted.{of_filter, in_rising, of_rising, numbers_connected, nodes_connected, node_never, node_on, below_self, below_on, one_sorted, sorted_filter, rising_sorted, rising_once}
 
 filter_swap : {E : Type 0} (f g : E → Bool) (es : List E) → filter f (filter g es) ≡ filter g (filter f es)
@@ -92,26 +92,26 @@ module _ (x : Extract) (tile_of : ℕ → ℤ → ℕ) (test : DirectedPiece →
   abbrev has_tile : ℕ → Bool
   has_tile c = not_none (map (stage_node x tile_of kept) (nodes_by x tile_of kept k c))
 
-  tiles_are : filter has_tile (tiles_by x tile_of edges k) ≡ tiles_by x tile_of kept k
+  tiles_are : filter has_tile (stage_tiles x tile_of edges k) ≡ stage_tiles x tile_of kept k
   tiles_are =
-      one_sorted nat_lt numbers_connected below_self below_on (filter has_tile (tiles_by x tile_of edges k)) (tiles_by x tile_of kept k)
-      (sorted_filter nat_lt numbers_connected below_self below_on has_tile (tiles_by x tile_of edges k) (rising_sorted nat_lt numbers_connected below_self below_on (map (λ p. tile_of k (piece_start x p)) edges)))
+      one_sorted nat_lt numbers_connected below_self below_on (filter has_tile (stage_tiles x tile_of edges k)) (stage_tiles x tile_of kept k)
+      (sorted_filter nat_lt numbers_connected below_self below_on has_tile (stage_tiles x tile_of edges k) (rising_sorted nat_lt numbers_connected below_self below_on (map (λ p. tile_of k (piece_start x p)) edges)))
       (rising_sorted nat_lt numbers_connected below_self below_on (map (λ p. tile_of k (piece_start x p)) kept))
-      (λ c h. let (there, some) = of_filter has_tile (tiles_by x tile_of edges k) c h in
+      (λ c h. let (there, some) = of_filter has_tile (stage_tiles x tile_of edges k) c h in
       let (r, its) = in_some (map (stage_node x tile_of kept) (nodes_by x tile_of kept k c)) some in
       let (n, (on, same)) = of_map (stage_node x tile_of kept) (nodes_by x tile_of kept k c) r its in
       let (p, (inside, (starts, tile))) = of_nodes kept c n on in
       in_rising nat_lt numbers_connected (map (λ p. tile_of k (piece_start x p)) kept) c
       (subst (IsIn (map (λ p. tile_of k (piece_start x p)) kept)) (ap (tile_of k) starts ∙ tile) (in_map (λ p. tile_of k (piece_start x p)) kept p inside)))
       (λ c h. let (p, (inside, tile)) = of_map (λ p. tile_of k (piece_start x p)) kept c (of_rising nat_lt numbers_connected (map (λ p. tile_of k (piece_start x p)) kept) c h) in
-      in_filter has_tile (tiles_by x tile_of edges k) c
+      in_filter has_tile (stage_tiles x tile_of edges k) c
       (in_rising nat_lt numbers_connected (map (λ p. tile_of k (piece_start x p)) edges) c (subst (IsIn (map (λ p. tile_of k (piece_start x p)) edges)) tile (in_map (λ p. tile_of k (piece_start x p)) edges p ((of_filter test edges p inside).0))))
       (some_in (map (stage_node x tile_of kept) (nodes_by x tile_of kept k c)) (stage_node x tile_of kept (piece_start x p)) (in_map (stage_node x tile_of kept) (nodes_by x tile_of kept k c) (piece_start x p) (in_nodes kept c (piece_start x p) p inside refl tile))))
 
 pub keeps_stage : KeepsStage
 keeps_stage x tile_of test edges k =
-    ap (filter (λ t. not_none t.nodes)) (map_map (stage_tile x tile_of edges k) (keep_tile test) (stage_tile x tile_of (filter test edges) k) (tiles_by x tile_of edges k) (tile_is x tile_of test edges k))
-    ∙ (filter_map (stage_tile x tile_of (filter test edges) k) (λ t. not_none t.nodes) (tiles_by x tile_of edges k) ∙ ap (map (stage_tile x tile_of (filter test edges) k)) (tiles_are x tile_of test edges k))
+    ap (filter (λ t. not_none t.nodes)) (map_map (stage_tile x tile_of edges k) (keep_tile test) (stage_tile x tile_of (filter test edges) k) (stage_tiles x tile_of edges k) (tile_is x tile_of test edges k))
+    ∙ (filter_map (stage_tile x tile_of (filter test edges) k) (λ t. not_none t.nodes) (stage_tiles x tile_of edges k) ∙ ap (map (stage_tile x tile_of (filter test edges) k)) (tiles_are x tile_of test edges k))
 
 -- ---- mixed in another way
 
@@ -133,7 +133,7 @@ module _ (x : Extract) (tile_of : ℕ → ℤ → ℕ) (k : ℕ) where
       let (p, (inside, (starts, tile))) = of_nodes x tile_of (λ q. true) es k es c n h in
       in_nodes x tile_of (λ q. true) es k fs c n p (over es fs alike p inside) starts tile
 
-  tile_over : (es fs : List DirectedPiece) → AreAlikeEdges x es fs → (c : ℕ) → IsIn (tiles_by x tile_of es k) c → IsIn (tiles_by x tile_of fs k) c
+  tile_over : (es fs : List DirectedPiece) → AreAlikeEdges x es fs → (c : ℕ) → IsIn (stage_tiles x tile_of es k) c → IsIn (stage_tiles x tile_of fs k) c
   tile_over es fs alike c h =
       let (p, (inside, tile)) = of_map (λ p. tile_of k (piece_start x p)) es c (of_rising nat_lt numbers_connected (map (λ p. tile_of k (piece_start x p)) es) c h) in
       in_rising nat_lt numbers_connected (map (λ p. tile_of k (piece_start x p)) fs) c (subst (IsIn (map (λ p. tile_of k (piece_start x p)) fs)) tile (in_map (λ p. tile_of k (piece_start x p)) fs p (over es fs alike p inside)))
@@ -141,15 +141,15 @@ module _ (x : Extract) (tile_of : ℕ → ℤ → ℕ) (k : ℕ) where
   same_stage : (es fs : List DirectedPiece) → AreAlikeEdges x es fs → stage x tile_of es k ≡ stage x tile_of fs k
   same_stage es fs alike =
       let back : AreAlikeEdges x fs es = λ n. sym (alike n) in
-      let tiles : tiles_by x tile_of es k ≡ tiles_by x tile_of fs k =
-      one_sorted nat_lt numbers_connected below_self below_on (tiles_by x tile_of es k) (tiles_by x tile_of fs k)
+      let tiles : stage_tiles x tile_of es k ≡ stage_tiles x tile_of fs k =
+      one_sorted nat_lt numbers_connected below_self below_on (stage_tiles x tile_of es k) (stage_tiles x tile_of fs k)
       (rising_sorted nat_lt numbers_connected below_self below_on (map (λ p. tile_of k (piece_start x p)) es)) (rising_sorted nat_lt numbers_connected below_self below_on (map (λ p. tile_of k (piece_start x p)) fs))
       (tile_over es fs alike) (tile_over fs es back) in
       let nodes : (c : ℕ) → Nodes es c ≡ Nodes fs c =
       λ c. one_sorted int_lt nodes_connected node_never node_on (Nodes es c) (Nodes fs c)
       (rising_sorted int_lt nodes_connected node_never node_on (filter (λ n. nat_eq (tile_of k n) c) (map (piece_start x) es))) (rising_sorted int_lt nodes_connected node_never node_on (filter (λ n. nat_eq (tile_of k n) c) (map (piece_start x) fs)))
       (node_over es fs alike c) (node_over fs es back c) in
-      map_same (stage_tile x tile_of es k) (stage_tile x tile_of fs k) (tiles_by x tile_of es k)
+      map_same (stage_tile x tile_of es k) (stage_tile x tile_of fs k) (stage_tiles x tile_of es k)
       (λ c. let rows : map (stage_node x tile_of es) (Nodes es c) ≡ map (stage_node x tile_of fs) (Nodes fs c) =
       map_same (stage_node x tile_of es) (stage_node x tile_of fs) (Nodes es c) (λ n. ap (λ l. record { osm = n; edges = l }) (alike n)) ∙ ap (map (stage_node x tile_of fs)) (nodes c) in
       λ i. record { level = k; tile = c; nodes = rows i })
@@ -212,9 +212,9 @@ module _ (x : Extract) (tile_of : ℕ → ℤ → ℕ) (es : List DirectedPiece)
   part_is : (c : ℕ) → flat_map (λ r. r.edges) (stage_tile x tile_of es j c).nodes ≡ part c
   part_is c = flat_of_map (stage_node x tile_of es) (λ r. r.edges) (nodes_by x tile_of es j c)
 
-  whole_is : stage_edges (stage x tile_of es j) ≡ flat_map part (tiles_by x tile_of es j)
+  whole_is : stage_edges (stage x tile_of es j) ≡ flat_map part (stage_tiles x tile_of es j)
   whole_is =
-      flat_of_map (stage_tile x tile_of es j) (λ t. flat_map (λ r. r.edges) t.nodes) (tiles_by x tile_of es j) ∙ flat_same (tiles_by x tile_of es j)
+      flat_of_map (stage_tile x tile_of es j) (λ t. flat_map (λ r. r.edges) t.nodes) (stage_tiles x tile_of es j) ∙ flat_same (stage_tiles x tile_of es j)
     where
       flat_same : (cs : List ℕ) → flat_map (λ c. flat_map (λ r. r.edges) (stage_tile x tile_of es j c).nodes) cs ≡ flat_map part cs
       flat_same [] = refl
@@ -242,18 +242,18 @@ module _ (x : Extract) (tile_of : ℕ → ℤ → ℕ) (es : List DirectedPiece)
 
   grouped : filter at_n (stage_edges (stage x tile_of es j)) ≡ At n
   grouped =
-      ap (filter at_n) whole_is ∙ (filter_flat at_n part (tiles_by x tile_of es j) ∙ by (At n) refl)
+      ap (filter at_n) whole_is ∙ (filter_flat at_n part (stage_tiles x tile_of es j) ∙ by (At n) refl)
     where
-      by : (ps : List DirectedPiece) → At n ≡ ps → flat_map (λ c. filter at_n (part c)) (tiles_by x tile_of es j) ≡ At n
+      by : (ps : List DirectedPiece) → At n ≡ ps → flat_map (λ c. filter at_n (part c)) (stage_tiles x tile_of es j) ≡ At n
       by [] is =
-          flat_none (λ c. filter at_n (part c)) (tiles_by x tile_of es j) (λ c h. filter_flat at_n At (nodes_by x tile_of es j c) ∙ flat_none (λ m. filter at_n (At m)) (nodes_by x tile_of es j c) (λ m k. none_in (filter at_n (At m)) (λ p l. subst (λ q. IsIn q p) is ((of_both m p l).0)))) ∙ sym is
+          flat_none (λ c. filter at_n (part c)) (stage_tiles x tile_of es j) (λ c h. filter_flat at_n At (nodes_by x tile_of es j c) ∙ flat_none (λ m. filter at_n (At m)) (nodes_by x tile_of es j c) (λ m k. none_in (filter at_n (At m)) (λ p l. subst (λ q. IsIn q p) is ((of_both m p l).0)))) ∙ sym is
       by (p ∷ ps) is =
           let (inside, starts) = of_filter at_n es p (subst (λ q. IsIn q p) (sym is) (inl refl)) in
           let start : piece_start x p ≡ n = (signed_Decides (piece_start x p) n).0 starts in
           let node : IsIn (nodes_by x tile_of es j (tile_of j n)) n = in_nodes x tile_of (λ q. true) es j es (tile_of j n) n p inside start refl in
-          let tile : IsIn (tiles_by x tile_of es j) (tile_of j n) =
+          let tile : IsIn (stage_tiles x tile_of es j) (tile_of j n) =
           in_rising nat_lt numbers_connected (map (λ q. tile_of j (piece_start x q)) es) (tile_of j n) (subst (λ m. IsIn (map (λ q. tile_of j (piece_start x q)) es) (tile_of j m)) start (in_map (λ q. tile_of j (piece_start x q)) es p inside)) in
-          flat_one (λ c. filter at_n (part c)) (tiles_by x tile_of es j) (tile_of j n) (rising_once nat_lt numbers_connected below_self below_on (map (λ q. tile_of j (piece_start x q)) es)) tile
+          flat_one (λ c. filter at_n (part c)) (stage_tiles x tile_of es j) (tile_of j n) (rising_once nat_lt numbers_connected below_self below_on (map (λ q. tile_of j (piece_start x q)) es)) tile
           (λ c h apart. others_none c (λ m k same. apart (sym (tile_of_node c m k) ∙ ap (tile_of j) same)))
           ∙ its_part node
 

@@ -7,7 +7,7 @@ use Rattle.osm_model.specs.declared.ways.OsmWay.{OsmWay}
 use Rattle.osm_model.specs.declared.extract.Extract.{Extract}
 use Rattle.road_pieces.specs.DirectedPiece.{DirectedPiece}
 use Rattle.road_pieces.specs.Paths.{Stands}
-use Rattle.road_pieces.specs.Modes.{all_modes, vehicle_modes}
+use Rattle.road_pieces.specs.Modes.{all_mode_bits, vehicle_mode_bits}
 use Rattle.road_pieces.specs.Rules.{Keeps}
 use Rattle.road_pieces.specs.Runs.{way_runs, is_junction}
 use Rattle.road_pieces.specs.Rows.{stops, spans}
@@ -27,7 +27,7 @@ mask_bits = 8
 
 -- the numbers of the tiles that are written today
 abbrev pub tile_numbers : FormatNumbers
-tile_numbers = record { all = all_modes; vehicles = vehicle_modes; bits = mask_bits }
+tile_numbers = record { all = all_mode_bits; vehicles = vehicle_mode_bits; bits = mask_bits }
 
 -- the same piece in the other direction
 abbrev pub reverse_of : DirectedPiece → DirectedPiece
@@ -57,7 +57,7 @@ abbrev pub local_index : Extract → DirectedPiece → ℕ
 local_index x p = position_or_len (is_same p) (base_edges x (piece_start x p))
 
 -- a piece that is kept for the asked modes
-pub record IsKept (x : Extract) (asked : ℕ) (p : DirectedPiece) : Type 0 where
+pub record IsKeptPiece (x : Extract) (asked : ℕ) (p : DirectedPiece) : Type 0 where
   pub exists : IsPiece x p
   pub kept : Keeps x asked p.way
 
@@ -66,16 +66,16 @@ abbrev pub IsMaskBit : Extract → FormatNumbers → DirectedPiece → ℕ → T
 IsMaskBit x numbers e i = IsMaskBitOf (IsPattern x) (local_index x) numbers.vehicles numbers.bits e i
 
 -- a sequence, written or not, and one that is written
-abbrev pub IsSequence : Extract → FormatNumbers → List DirectedPiece → ℕ → Type 0
-IsSequence x numbers pattern modes = IsSequenceOf (IsPattern x) (local_index x) numbers.vehicles numbers.bits pattern modes
+abbrev pub IsTurnSequence : Extract → FormatNumbers → List DirectedPiece → ℕ → Type 0
+IsTurnSequence x numbers pattern modes = IsSequenceOf (IsPattern x) (local_index x) numbers.vehicles numbers.bits pattern modes
 
 abbrev pub IsStoredSequence : Extract → ℕ → FormatNumbers → List DirectedPiece → ℕ → Type 0
 IsStoredSequence x asked numbers pattern modes =
-    IsStoredSequenceOf (IsPattern x) (local_index x) numbers.vehicles numbers.bits (IsKept x asked) pattern modes
+    IsStoredSequenceOf (IsPattern x) (local_index x) numbers.vehicles numbers.bits (IsKeptPiece x asked) pattern modes
 
 -- a piece that stands in a sequence, written or not, in this direction or the other
 pub record IsFlagged (x : Extract) (numbers : FormatNumbers) (p : DirectedPiece) : Type 0 where
   pub pattern : List DirectedPiece
   pub modes : ℕ
-  pub sequence : IsSequence x numbers pattern modes
+  pub sequence : IsTurnSequence x numbers pattern modes
   pub among : Stands (p ∷ []) pattern ⊎ Stands (reverse_of p ∷ []) pattern

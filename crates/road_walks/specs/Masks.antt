@@ -20,6 +20,6 @@ pub record IsSequenceOf {P : Type 0} (IsPattern : List P → ℕ → Type 0) (lo
   pub not_in_mask : in_mask local_index vehicles bits pattern modes ≡ false
 
 -- a sequence that is written: all its pieces are kept
-pub record IsStoredSequenceOf {P : Type 0} (IsPattern : List P → ℕ → Type 0) (local_index : P → ℕ) (vehicles bits : ℕ) (IsKept : P → Type 0) (pattern : List P) (modes : ℕ) : Type 0 where
+pub record IsStoredSequenceOf {P : Type 0} (IsPattern : List P → ℕ → Type 0) (local_index : P → ℕ) (vehicles bits : ℕ) (IsKeptPiece : P → Type 0) (pattern : List P) (modes : ℕ) : Type 0 where
   pub sequence : IsSequenceOf IsPattern local_index vehicles bits pattern modes
-  pub kept : All IsKept pattern
+  pub kept : All IsKeptPiece pattern

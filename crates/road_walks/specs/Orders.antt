@@ -13,9 +13,9 @@ rising less [] = []
 rising less (e ∷ es) = put_in less e (rising less es)
 
 -- the number whose bit is set where the test passes, for so many bits from one on
-abbrev pub number_of : (ℕ → Bool) → ℕ → ℕ → ℕ
-number_of test i zero = 0
-number_of test i (suc count) = from_bool (test i) + 2 * number_of test (suc i) count
+abbrev pub number_of_bits : (ℕ → Bool) → ℕ → ℕ → ℕ
+number_of_bits test i zero = 0
+number_of_bits test i (suc count) = from_bool (test i) + 2 * number_of_bits test (suc i) count
 
 -- a list has an element
 abbrev pub not_none : {E : Type 0} → List E → Bool
@@ -42,5 +42,5 @@ same_texts (n ∷ ns) [] = false
 same_texts (n ∷ ns) (m ∷ ms) = same_numbers n m && same_texts ns ms
 
 -- by the list of values, then by the modes
-abbrev pub sequence_less : List ℕ × ℕ → List ℕ × ℕ → Bool
-sequence_less s t = list_less s.0 t.0 || (same_numbers s.0 t.0 && nat_lt s.1 t.1)
+abbrev pub sequence_below : List ℕ × ℕ → List ℕ × ℕ → Bool
+sequence_below s t = list_less s.0 t.0 || (same_numbers s.0 t.0 && nat_lt s.1 t.1)

@@ -8,7 +8,7 @@ use Rattle.road_pieces.specs.Paths.{Leads, Stands}
 use Rattle.road_pieces.specs.Pieces.{IsPiece, piece_start, piece_end, steps}
 use Rattle.road_pieces.specs.Matches.{Forbids, IsPattern, IsPatternOf}
 use Rattle.road_pieces.specs.Walks.{MayRide}
-use Rattle.road_walks.specs.BaseEdges.{FormatNumbers, local_index, IsKept, IsMaskBit, IsSequence}
+use Rattle.road_walks.specs.BaseEdges.{FormatNumbers, local_index, IsKeptPiece, IsMaskBit, IsTurnSequence}
 use Rattle.road_walks.specs.EdgeWalks.{MayFollowOn}
 
 -- a forbidden list of steps stands in the steps of these pieces
@@ -34,4 +34,4 @@ MasksTell =
 -- lost where a sequence with a piece that isn't kept isn't stored.
 abbrev pub SequencesTell : Type 0
 SequencesTell =
-    (x : Extract) (asked : ℕ) (numbers : FormatNumbers) (mode : ℕ) (a b : ℤ) (edges : List DirectedPiece) → Leads (MayRide x asked mode) (piece_start x) (piece_end x) (MayFollowOn x numbers mode) a edges b → (pattern : List DirectedPiece) (modes : ℕ) → IsSequence x numbers pattern modes → Stands pattern edges → All (IsKept x asked) pattern
+    (x : Extract) (asked : ℕ) (numbers : FormatNumbers) (mode : ℕ) (a b : ℤ) (edges : List DirectedPiece) → Leads (MayRide x asked mode) (piece_start x) (piece_end x) (MayFollowOn x numbers mode) a edges b → (pattern : List DirectedPiece) (modes : ℕ) → IsTurnSequence x numbers pattern modes → Stands pattern edges → All (IsKeptPiece x asked) pattern

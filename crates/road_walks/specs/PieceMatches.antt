@@ -28,10 +28,10 @@ pub record IsPart (way : ℤ) (part : List DirectedPiece) : Type 0 where
   pub same_way : first.way ≡ way
   pub goes_on : AllFollow PieceGoesOn part
 
-abbrev pub AreParts : List ℤ → List (List DirectedPiece) → Type 0
-AreParts [] parts = parts ≡ []
-AreParts (way ∷ ways) [] = ⊥
-AreParts (way ∷ ways) (part ∷ parts) = IsPart way part × AreParts ways parts
+abbrev pub ArePieceParts : List ℤ → List (List DirectedPiece) → Type 0
+ArePieceParts [] parts = parts ≡ []
+ArePieceParts (way ∷ ways) [] = ⊥
+ArePieceParts (way ∷ ways) (part ∷ parts) = IsPart way part × ArePieceParts ways parts
 
 abbrev pub PieceTurnsBack : Bool → DirectedPiece → DirectedPiece → Type 0
 PieceTurnsBack true first last = last ≡ reverse_of first
@@ -40,7 +40,7 @@ PieceTurnsBack false first last = last ≢ reverse_of first
 abbrev pub AreViaParts : Extract → Bool → TurnVia → DirectedPiece → List (List DirectedPiece) → DirectedPiece → Type 0
 AreViaParts x u_turn (via_node n) first parts last =
     (parts ≡ []) × (piece_end x first ≡ n) × (first.way ≡ last.way → PieceTurnsBack u_turn first last)
-AreViaParts x u_turn (via_ways ways) first parts last = AreParts ways parts
+AreViaParts x u_turn (via_ways ways) first parts last = ArePieceParts ways parts
 
 pub record IsPieceMatch (x : Extract) (row : TurnRule) (pattern : List DirectedPiece) : Type 0 where
   pub first : DirectedPiece

@@ -20,7 +20,7 @@ pub data Completes (x : Extract) (tos : List ℤ) : List ℤ → DirectedPiece �
   begins : (way : ℤ) (ways : List ℤ) (p q : DirectedPiece) (rest : List DirectedPiece) → Joins x p q → q.way ≡ way → Completes x tos ways q rest → Completes x tos (way ∷ ways) p (q ∷ rest)
 
 -- a match, read from its from piece on
-pub record IsReading (x : Extract) (row : TurnRule) (way : ℤ) (ways : List ℤ) (pattern : List DirectedPiece) : Type 0 where
+pub record IsMatchReading (x : Extract) (row : TurnRule) (way : ℤ) (ways : List ℤ) (pattern : List DirectedPiece) : Type 0 where
   pub first : DirectedPiece
   pub second : DirectedPiece
   pub rest : List DirectedPiece
@@ -33,4 +33,4 @@ pub record IsReading (x : Extract) (row : TurnRule) (way : ℤ) (ways : List ℤ
 
 -- the law of readings
 abbrev pub SameReadings : Type 0
-SameReadings = (x : Extract) (row : TurnRule) (way : ℤ) (ways : List ℤ) → row.via ≡ via_ways (way ∷ ways) → (pattern : List DirectedPiece) → IsPieceMatch x row pattern ↔ IsReading x row way ways pattern
+SameReadings = (x : Extract) (row : TurnRule) (way : ℤ) (ways : List ℤ) → row.via ≡ via_ways (way ∷ ways) → (pattern : List DirectedPiece) → IsPieceMatch x row pattern ↔ IsMatchReading x row way ways pattern

@@ -20,8 +20,8 @@ module _ (x : Extract) (tile_of : ℕ → ℤ → ℕ) where
   abbrev pub nodes_by : List DirectedPiece → ℕ → ℕ → List ℤ
   nodes_by edges k c = rising int_lt (filter (λ n. nat_eq (tile_of k n) c) (map (piece_start x) edges))
 
-  abbrev pub tiles_by : List DirectedPiece → ℕ → List ℕ
-  tiles_by edges k = rising nat_lt (map (λ p. tile_of k (piece_start x p)) edges)
+  abbrev pub stage_tiles : List DirectedPiece → ℕ → List ℕ
+  stage_tiles edges k = rising nat_lt (map (λ p. tile_of k (piece_start x p)) edges)
 
   abbrev pub edges_by : List DirectedPiece → ℤ → List DirectedPiece
   edges_by edges n = filter (λ p. int_eq (piece_start x p) n) edges
@@ -34,7 +34,7 @@ module _ (x : Extract) (tile_of : ℕ → ℤ → ℕ) where
 
   -- the tiles of a level that these edges make
   abbrev pub stage : List DirectedPiece → ℕ → List StageTile
-  stage edges k = map (stage_tile edges k) (tiles_by edges k)
+  stage edges k = map (stage_tile edges k) (stage_tiles edges k)
 
 -- what `keep` does: it drops edges, nodes without an edge, tiles without a node
 abbrev pub keep_row : (DirectedPiece → Bool) → StageNode → StageNode

@@ -1,1 +1,2 @@
 pub mod AlikeLaw
+pub mod WorkedHub

@@ -4,7 +4,7 @@ use Rattle.std.specs.Int.{IsBitSet}
 use Rattle.std.specs.List.{Contains}
 use Rattle.road_pieces.specs.Paths.{Leads, Stands}
 use Rattle.road_pieces.specs.Following.{AllFollow}
-use Rattle.road_pieces.specs.Modes.{HasMode}
+use Rattle.road_pieces.specs.Modes.{ShareMode}
 
 pub record GraphEdge : Type 0 where
   pub id : ℕ
@@ -35,7 +35,7 @@ pub data GraphItem : Type 0 where
   transition_item : GraphNode → GraphNode → GraphItem
 
 abbrev pub IsGraphItem : Graph → ℕ → GraphItem → Type 0
-IsGraphItem g mode (edge_item n e) = Contains g.nodes n × Contains n.edges e × HasMode e.access mode
+IsGraphItem g mode (edge_item n e) = Contains g.nodes n × Contains n.edges e × ShareMode e.access mode
 IsGraphItem g mode (transition_item n m) = Contains g.nodes n × Contains g.nodes m × Contains n.transitions m.id
 
 abbrev pub graph_start : GraphItem → ℕ
@@ -46,15 +46,15 @@ abbrev pub graph_end : GraphItem → ℕ
 graph_end (edge_item n e) = e.end
 graph_end (transition_item n m) = m.id
 
-abbrev pub taken : List GraphItem → List GraphEdge
-taken [] = []
-taken (edge_item n e ∷ items) = e ∷ taken items
-taken (transition_item n m ∷ items) = taken items
+abbrev pub edges_taken : List GraphItem → List GraphEdge
+edges_taken [] = []
+edges_taken (edge_item n e ∷ items) = e ∷ edges_taken items
+edges_taken (transition_item n m ∷ items) = edges_taken items
 
 -- an edge that may come after another one, whatever transitions stand between
 abbrev pub MayTakeNext : Graph → ℕ → ℕ → GraphEdge → GraphEdge → Type 0
 MayTakeNext g vehicles mode e f =
-    ((n : GraphNode) → Contains g.nodes n → n.id ≡ e.end → HasMode n.access mode) × (HasMode vehicles mode → IsBitSet e.mask f.local_index → ⊥)
+    ((n : GraphNode) → Contains g.nodes n → n.id ≡ e.end → ShareMode n.access mode) × (ShareMode vehicles mode → IsBitSet e.mask f.local_index → ⊥)
 
 pub record TileWalk (g : Graph) (vehicles mode : ℕ) (a b : ℤ) (total : ℕ) : Type 0 where
   pub start : GraphNode
@@ -65,6 +65,6 @@ pub record TileWalk (g : Graph) (vehicles mode : ℕ) (a b : ℤ) (total : ℕ) 
   pub ends : end.osm ≡ b
   pub items : List GraphItem
   pub leads : Leads (IsGraphItem g mode) graph_start graph_end (λ i j. ⊤) start.id items end.id
-  pub follow : AllFollow (MayTakeNext g vehicles mode) (taken items)
-  pub permitted : (s : GraphSequence) → Contains g.sequences s → HasMode s.modes mode → Stands s.edges (map (λ e. e.id) (taken items)) → ⊥
-  pub length_is : sum_by (λ e. e.cm) (taken items) ≡ total
+  pub follow : AllFollow (MayTakeNext g vehicles mode) (edges_taken items)
+  pub permitted : (s : GraphSequence) → Contains g.sequences s → ShareMode s.modes mode → Stands s.edges (map (λ e. e.id) (edges_taken items)) → ⊥
+  pub length_is : sum_by (λ e. e.cm) (edges_taken items) ≡ total

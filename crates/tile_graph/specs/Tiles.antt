@@ -70,6 +70,6 @@ graph_of_tiles ts = record {
 }
 
 -- the chain at an offset in words, where each chain takes a word for its count
-abbrev pub chain_at : List (List ℕ) → ℕ → List ℕ
-chain_at [] offset = []
-chain_at (c ∷ cs) offset = if nat_eq offset 0 then c else chain_at cs (offset - suc (length c))
+abbrev pub chain_at_offset : List (List ℕ) → ℕ → List ℕ
+chain_at_offset [] offset = []
+chain_at_offset (c ∷ cs) offset = if nat_eq offset 0 then c else chain_at_offset cs (offset - suc (length c))
