@@ -13,7 +13,6 @@ use Rattle.osm_objects.proofs.LawNames.{NoneBad, FirstBad}
 use Rattle.osm_objects.proofs.LawRanks.{FirstFrom, at_part, not_before, none_at}
 
 module _ (table : List (List ℕ)) (scale : Scale) (kind : ObjectKind) (held : Held) (at : ℕ) where
-
   abbrev pub In : ObjectCause → Type 0
   In cause = IsCauseIn table scale kind held cause
 

@@ -362,9 +362,10 @@ tag_reads table at pair = record { good = good_of; bad = bad_of }
         elim g.is [
           | inl kept ↦
               (not_bad IsKept table pair.0 g.key g.has_key (λ so. kept.1), (not_bad (λ (text : List ℕ). (k : List ℕ) × IsText table pair.0 k × IsKept k) table pair.1 g.value g.has_value (λ so. kept.2), tt))
-          | inr dropped ↦
-              (not_bad IsKept table pair.0 g.key g.has_key (λ so. absurd (dropped.0 so)),
-                (not_bad (λ (text : List ℕ). (k : List ℕ) × IsText table pair.0 k × IsKept k) table pair.1 g.value g.has_value (λ so. absurd (dropped.0 (subst IsKept (some_one so.0 g.key (sym so.1 ∙ g.has_key)) so.2))), tt))
+          | inr dropped ↦ (
+            not_bad IsKept table pair.0 g.key g.has_key (λ so. absurd (dropped.0 so)),
+            (not_bad (λ (text : List ℕ). (k : List ℕ) × IsText table pair.0 k × IsKept k) table pair.1 g.value g.has_value (λ so. absurd (dropped.0 (subst IsKept (some_one so.0 g.key (sym so.1 ∙ g.has_key)) so.2))), tt),
+          )
         ]
 
     bad_key : (f : ObjectFault) → f ≡ faults.BadString at pair.0 → IsBadText IsKept table pair.0 → FirstBad table at (Key pair.0 ∷ Value pair.0 pair.1 ∷ []) f

@@ -200,7 +200,7 @@ rows_is table scale at (row ∷ rows) (node ∷ nodes) (one, zip) =
     let more = rows_is table scale at rows nodes zip in
     let tag_lists = map (λ (node : OsmNode). node.tags) nodes in (
       then_is (tags_of table at row.group) node.tags (λ y. each (tags_of table at) (groups_of_rows rows) >>= λ ys. Ok (y ∷ ys)) (node.tags ∷ tag_lists) (tags_is table at row.group node.tags one.tags)
-      (then_is (each (tags_of table at) (groups_of_rows rows)) tag_lists (λ ys. Ok (node.tags ∷ ys)) (node.tags ∷ tag_lists) more.0 refl),
+          (then_is (each (tags_of table at) (groups_of_rows rows)) tag_lists (λ ys. Ok (node.tags ∷ ys)) (node.tags ∷ tag_lists) more.0 refl),
       then_is (node_at scale row.id row.lat row.lon node.tags) node (λ n. nodes_at scale (ids_of rows) (lats_of rows) (lons_of rows) tag_lists >>= λ ns. Ok (n ∷ ns)) (node ∷ nodes) (node_so scale row.id row.lat row.lon node one.is)
-      (then_is (nodes_at scale (ids_of rows) (lats_of rows) (lons_of rows) tag_lists) nodes (λ ns. Ok (node ∷ ns)) (node ∷ nodes) more.1 refl),
+          (then_is (nodes_at scale (ids_of rows) (lats_of rows) (lons_of rows) tag_lists) nodes (λ ns. Ok (node ∷ ns)) (node ∷ nodes) more.1 refl),
     )

@@ -18,3 +18,5 @@ pub mod LawNames
 pub mod LawPlaces
 pub mod LawRanks
 pub mod LawFirst
+pub mod LawKinds
+pub mod LawBlocks
