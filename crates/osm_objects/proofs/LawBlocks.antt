@@ -29,13 +29,13 @@ use Rattle.osm_objects.proofs.LawKinds.{lists_by, kind_means, kind_meant, first_
 
 -- the law of the messages, for an object's numbers
 abbrev pub NumbersAre : Type 0
-NumbersAre = (kind : ObjectKind) (at : ℕ) (bytes : List ℕ) → AreBytes bytes → (numbers : List (ℕ × ℕ)) → (numbers_in (shape_of kind) at bytes ≡ Ok numbers) ↔ IsObject (shape_of kind) at bytes numbers
+NumbersAre = (kind : ObjectKind) (at : ℕ) (bytes : List ℕ) → AreBytes bytes → (numbers : List (ℕ × ℕ)) → (numbers_in (shape_of kind) at bytes ≡ Ok numbers) ↔ IsObject kind at bytes numbers
 
 -- its numbers, and that there are no others
 pub record Legible (object : Object) : Type 0 where
   pub numbers : List (ℕ × ℕ)
-  pub spells : IsObject (shape_of object.kind) object.at object.bytes numbers
-  pub one : (others : List (ℕ × ℕ)) → IsObject (shape_of object.kind) object.at object.bytes others → others ≡ numbers
+  pub spells : IsObject object.kind object.at object.bytes numbers
+  pub one : (others : List (ℕ × ℕ)) → IsObject object.kind object.at object.bytes others → others ≡ numbers
   pub lists : lists_in object ≡ lists_by (held_by numbers)
 
 same_lists : {a b c d e f a' b' c' d' e' f' : List ℕ} → a ≡ a' → b ≡ b' → c ≡ c' → d ≡ d' → e ≡ e' → f ≡ f'

@@ -10,7 +10,6 @@ use Rattle.osm_messages.specs.declared.kind.ObjectKind.TheVariants as kinds
 use Rattle.osm_messages.specs.Groups.{Object}
 use Rattle.osm_messages.specs.Blocks.{Block}
 use Rattle.osm_messages.specs.Means.{IsObject}
-use Rattle.osm_messages.specs.Numbers.{shape_of}
 use Rattle.osm_objects.specs.declared.fault.ObjectFault.{ObjectFault}
 use Rattle.osm_objects.specs.declared.fault.ObjectFault.TheVariants as faults
 use Rattle.osm_objects.specs.declared.scale.Scale.{Scale}
@@ -188,13 +187,13 @@ pub record IsFirstCause (table : List (List ℕ)) (scale : Scale) (kind : Object
 -- the first fault of an object with its numbers
 pub record HasFirstFault (table : List (List ℕ)) (scale : Scale) (object : Object) (fault : ObjectFault) : Type 0 where
   pub numbers : List (ℕ × ℕ)
-  pub spells : IsObject (shape_of object.kind) object.at object.bytes numbers
+  pub spells : IsObject object.kind object.at object.bytes numbers
   pub first : IsFirstCause table scale object.kind (held_by numbers) object.at fault
 
 -- no cause stands in the object
 pub record HasNoFault (table : List (List ℕ)) (scale : Scale) (object : Object) : Type 0 where
   pub numbers : List (ℕ × ℕ)
-  pub spells : IsObject (shape_of object.kind) object.at object.bytes numbers
+  pub spells : IsObject object.kind object.at object.bytes numbers
   pub none : (cause : ObjectCause) → IsCauseIn table scale object.kind (held_by numbers) cause → ⊥
 
 -- the first fault of objects: none stands in the objects before that one

@@ -11,7 +11,6 @@ use Rattle.osm_messages.specs.declared.kind.ObjectKind.TheVariants as kinds
 use Rattle.osm_messages.specs.Groups.{Object}
 use Rattle.osm_messages.specs.Blocks.{Block}
 use Rattle.osm_messages.specs.Means.{Together, IsObject}
-use Rattle.osm_messages.specs.Numbers.{shape_of}
 use Rattle.osm_model.specs.declared.tags.Tag.{Tag}
 use Rattle.osm_model.specs.declared.nodes.OsmNode.{OsmNode}
 use Rattle.osm_model.specs.declared.ways.OsmWay.{OsmWay}
@@ -228,7 +227,7 @@ MeansObject kinds.Relation table scale held given = (relation : OsmRelation) × 
 -- an object with its numbers
 pub record GivesObjects (table : List (List ℕ)) (scale : Scale) (object : Object) (given : Objects) : Type 0 where
   pub numbers : List (ℕ × ℕ)
-  pub spells : IsObject (shape_of object.kind) object.at object.bytes numbers
+  pub spells : IsObject object.kind object.at object.bytes numbers
   pub means : MeansObject object.kind table scale (held_by numbers) given
 
 -- the objects, one after the other
