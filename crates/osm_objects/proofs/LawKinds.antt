@@ -201,18 +201,18 @@ way_decides table scale at held =
 
 -- ---- members
 
+type_ok : (at n : ℕ) (k : MemberKind) → kind_of at n ≡ Ok k → n ≡ type_of k
+type_ok at zero k e = ap type_of (ok_one members.Node k e)
+type_ok at (suc zero) k e = ap type_of (ok_one members.Way k e)
+type_ok at (suc (suc zero)) k e = ap type_of (ok_one members.Relation k e)
+type_ok at (suc (suc (suc n))) k e = absurd (ok_not_err k (faults.Uneven at) (sym e))
+
 types_ok : (at : ℕ) (types : List ℕ) (ks : List MemberKind) → each (kind_of at) types ≡ Ok ks → types ≡ map type_of ks
 types_ok at [] ks e = ap (map type_of) (ok_one [] ks e)
 types_ok at (n ∷ ns) ks e =
     let a = both_parts (kind_of at n) (λ y. each (kind_of at) ns >>= λ ys. Ok (y ∷ ys)) ks e in
     let b = both_parts (each (kind_of at) ns) (λ ys. Ok (a.0 ∷ ys)) ks a.2 in
-    ap (λ m. m ∷ ns) (one n a.0 a.1) ∙ ap (λ l. type_of a.0 ∷ l) (types_ok at ns b.0 b.1) ∙ ap (map type_of) (ok_one (a.0 ∷ b.0) ks b.2)
-  where
-    one : (n : ℕ) (k : MemberKind) → kind_of at n ≡ Ok k → n ≡ type_of k
-    one zero k e = ap type_of (ok_one members.Node k e)
-    one (suc zero) k e = ap type_of (ok_one members.Way k e)
-    one (suc (suc zero)) k e = ap type_of (ok_one members.Relation k e)
-    one (suc (suc (suc n))) k e = absurd (ok_not_err k (faults.Uneven at) (sym e))
+    ap (λ m. m ∷ ns) (type_ok at n a.0 a.1) ∙ ap (λ l. type_of a.0 ∷ l) (types_ok at ns b.0 b.1) ∙ ap (map type_of) (ok_one (a.0 ∷ b.0) ks b.2)
 
 types_is : (at : ℕ) (ks : List MemberKind) → each (kind_of at) (map type_of ks) ≡ Ok ks
 types_is at [] = refl
