@@ -8,3 +8,4 @@ pub mod Prefix
 pub mod Readings
 pub mod Whole
 pub mod OfBytes
+pub mod ContentLaw

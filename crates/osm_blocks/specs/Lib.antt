@@ -5,3 +5,4 @@ pub mod Counts
 pub mod Extracts
 pub mod Steps
 pub mod ReadAnswers
+pub mod FileContent

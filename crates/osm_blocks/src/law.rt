@@ -1,14 +1,18 @@
 //! What the definitions of an extract mean for each file.
 
 ghost use Rattle.std.specs.Prelude.{◌≡◌, ◌↔◌, ℕ, List, true, None};
+ghost use Rattle.wire_read.specs.Varint.{AreBytes};
 ghost use Rattle.osm_model.specs.Extract.{AreWithin};
 ghost use Rattle.osm_model.specs.declared.extract.Extract.{Extract};
 ghost use Rattle.osm_objects.specs.Objects.{Objects};
 ghost use Rattle.osm_blocks.specs.declared.fault.ExtractFault.{ExtractFault};
 ghost use Rattle.osm_blocks.specs.Faults.{is_of_bytes};
 ghost use Rattle.osm_blocks.specs.Counts.{counts_of, first_past};
+ghost use Rattle.osm_blocks.specs.FileContent.{IsFileOf};
 ghost use Rattle.osm_blocks.specs.Extracts.{Reading, IsReading, IsRead, Reads, Refuses, lists_of};
 
+use osm_messages::block_law;
+use osm_objects::object_law;
 use pbf_blobs::framing_law;
 
 /// For each list of numbers there is a reading, the lists of one extract or one fault, and only one. The lists are
@@ -21,4 +25,14 @@ pub fn reading_law()
     ensures limits { (lists : Objects) → (first_past (counts_of lists) ≡ None) ↔ AreWithin lists.nodes lists.ways lists.relations }
 {
     framing_law();
+}
+
+/// A file reads as lists exactly where it says them by the format: it is triples with a header before each data blob,
+/// and the objects that its blocks mean are these, each kind in order of id, within the limits.
+pub fn content_law()
+    ensures { (bytes : List ℕ) → AreBytes bytes → (lists : Objects) → Reads bytes lists ↔ IsFileOf bytes lists }
+{
+    framing_law();
+    block_law();
+    object_law();
 }

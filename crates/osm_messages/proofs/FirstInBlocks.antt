@@ -1,5 +1,5 @@
 -- The fault of a group and of a block is the first that stands there.
-use Rattle.std.proofs.Common.{◌≡◌, ℕ, ◌+◌, ◌<◌, ◌≤◌, cond, eqb, ◌&&◌, Bool, true, false, is_some, List, [], ◌∷◌, ◌++◌, length, Option, Some, None, Result, Ok, Err, ◌↔◌, refl, sym, ap, ◌∙◌, subst, arith, ◌⊎◌, inl, inr}
+use Rattle.std.proofs.Common.{◌≡◌, ℕ, ◌+◌, ◌<◌, ◌≤◌, cond, eqb, ◌&&◌, Bool, true, false, is_some, List, [], ◌∷◌, ◌++◌, length, Option, Some, None, Result, Ok, Err, ◌↔◌, refl, sym, ap, ◌∙◌, subst, arith, ◌⊎◌, inl, inr, ◌||◌}
 use Rattle.std.proofs.lemmas.List.{append-nil}
 use Rattle.std.proofs.lemmas.List.Elements.{filter_map-append, All-nil}
 use Rattle.wire_read.specs.Varint.{AreBytes}
@@ -14,10 +14,10 @@ use Rattle.osm_messages.specs.Headers.{features_in}
 use Rattle.osm_messages.specs.Numbers.{Shape, shape_of, numbers_in}
 use Rattle.osm_messages.specs.Groups.{Object, has_dense, object_of, with_member, group_step, group_in}
 use Rattle.osm_messages.specs.Blocks.{Block, no_block, with_table, with_group, with_field, block_step, block_in}
-use Rattle.osm_messages.specs.Means.{Part, held_part, parts, kind_of, object_by, held_object, objects_in, SpellsObject}
-use Rattle.osm_messages.specs.Faults.{place_of, InField, InNone, InNumbers, InObject, InMember, InTable, InGroup, InBlock, StandsIn, IsFirst}
+use Rattle.osm_messages.specs.Means.{Part, held_part, parts, kind_of, object_by, held_object, objects_in, SpellsObject, is_dense_message}
+use Rattle.osm_messages.specs.Faults.{place_of, InField, InNone, InNumbers, InObject, InMember, InTable, InGroup, InBlock, StandsIn, IsFirst, has_dense_message}
 use Rattle.osm_messages.proofs.Meant.{parts_of, err_not_ok, InBytes, HoldsBytes}
-use Rattle.osm_messages.proofs.MeantGroups.{add, add_kind, member_kind, held_added}
+use Rattle.osm_messages.proofs.MeantGroups.{add, add_kind, member_kind, held_added, dense_same}
 use Rattle.osm_messages.proofs.MeantBlocks.{left_of, TableFrom, same_block, apart_1_2, field_means, true_not_false, not_empty}
 use Rattle.osm_messages.proofs.FirstFaults.{SameOrBehind, Faulty, Judged, err_is, message_within, message_judged}
 use Rattle.osm_messages.proofs.FirstInObjects.{nothing, features_judged, texts_judged, table_within, numbers_judged, numbers_within}
@@ -35,7 +35,7 @@ false_not_true e = cc
 -- ---- one object
 
 abbrev InAdded : Bool → ℕ → Object → MessageFault → Type 0
-InAdded again at object g = ((again ≡ true) × (g ≡ faults.Repeated at 2)) ⊎ StandsIn (InNumbers (shape_of object.kind)) object.at object.bytes g
+InAdded again at object g = ((again ≡ true) × (g ≡ faults.Repeated at 2)) ⊎ StandsIn (InNumbers object.kind) object.at object.bytes g
 
 add_judged : (again : Bool) (objects : List Object) (at : ℕ) (object : Object) → AreBytes object.bytes → at < object.at → Judged (add again objects at object) (InAdded again at object)
 add_judged true objects at object are le = record {
@@ -44,14 +44,14 @@ add_judged true objects at object are le = record {
         inl (refl, sym same),
         λ g stands. elim stands [
           | inl h ↦ inl (h.1 ∙ same)
-          | inr h ↦ inr (omega (arith, ap place_of same, le, (numbers_within (shape_of object.kind) object.at object.bytes g h).0))
+          | inr h ↦ inr (omega (arith, ap place_of same, le, (numbers_within object.kind object.at object.bytes g h).0))
         ],
       );
   taken = λ t e. absurd (err_not_ok (faults.Repeated at 2) t e);
 }
 add_judged false objects at object are le =
     let numbers = numbers_in (shape_of object.kind) object.at object.bytes in
-    let judged = numbers_judged (shape_of object.kind) object.at object.bytes are in
+    let judged = numbers_judged object.kind object.at object.bytes are in
     record {
       refused = λ d e.
           let r = judged.refused d (err_part numbers (λ _. objects ++ object ∷ []) d e) in (
@@ -89,7 +89,7 @@ object_within : (kind : Option ObjectKind) (had : Bool) (at body_at : ℕ) (byte
 object_within None had at body_at bytes g le stands = absurd stands
 object_within (Some kind) had at body_at bytes g le (inl h) = (omega (arith, ap place_of h.1), omega (arith, le, ap place_of h.1))
 object_within (Some kind) had at body_at bytes g le (inr h) =
-    let w = numbers_within (shape_of kind) body_at bytes g h in
+    let w = numbers_within kind body_at bytes g h in
     (omega (arith, le, w.0), w.1)
 
 member_within : (had : Bool) (number at body_at : ℕ) (content : Content) (g : MessageFault) → at < body_at → InObject had at (held_object number body_at content) g → (at ≤ place_of g) × (place_of g < body_at + inner_length content)
@@ -111,17 +111,24 @@ group_next before s u x holds inv e =
     ∙ ap (λ (l : List Object). l ++ objects_in (x ∷ [])) inv
     ∙ sym (filter_map-append (λ (field : WireField). held_object field.number field.body_at field.content) before (x ∷ []))
 
+had_same : (objects : List Object) → has_dense objects ≡ has_dense_message objects
+had_same [] = refl
+had_same (object ∷ objects) = ap (λ b. b || has_dense objects) (dense_same object.kind) ∙ ap (λ b. is_dense_message object.kind || b) (had_same objects)
+
+had_before : (before : List WireField) (s : List Object) → GroupInv before s → has_dense s ≡ has_dense_message (objects_in before)
+had_before before s inv = ap (λ (l : List Object). has_dense l) inv ∙ had_same (objects_in before)
+
 group_faulty : Faulty group_step GroupInv InMember
 group_faulty = record {
   refused = λ before s x d holds le inv e.
-      subst (λ (l : List Object). InObject (has_dense l) x.at (held_object x.number x.body_at x.content) d × ((g : MessageFault) → InObject (has_dense l) x.at (held_object x.number x.body_at x.content) g → SameOrBehind d g)) inv
+      subst (λ (b : Bool). InObject b x.at (held_object x.number x.body_at x.content) d × ((g : MessageFault) → InObject b x.at (held_object x.number x.body_at x.content) g → SameOrBehind d g)) (had_before before s inv)
       ((member_judged s x x.content holds le).refused d e);
   taken = λ before s u x holds le inv e. (
     group_next before s u x holds inv e,
-    subst (λ (l : List Object). (g : MessageFault) → InObject (has_dense l) x.at (held_object x.number x.body_at x.content) g → ⊥) inv
+    subst (λ (b : Bool). (g : MessageFault) → InObject b x.at (held_object x.number x.body_at x.content) g → ⊥) (had_before before s inv)
         ((member_judged s x x.content holds le).taken u e),
   );
-  within = λ before x g le stands. member_within (has_dense (objects_in before)) x.number x.at x.body_at x.content g le stands;
+  within = λ before x g le stands. member_within (has_dense_message (objects_in before)) x.number x.at x.body_at x.content g le stands;
 }
 
 pub group_judged : (at : ℕ) (bytes : List ℕ) → AreBytes bytes → Judged (group_in at bytes) (StandsIn InMember at bytes)
@@ -306,5 +313,5 @@ block_fault at bytes are fault = first_only (block_in at bytes) InBlock at bytes
 pub header_fault : (at : ℕ) (bytes : List ℕ) → AreBytes bytes → (fault : MessageFault) → (features_in at bytes ≡ Err fault) ↔ IsFirst InNone at bytes fault
 header_fault at bytes are fault = first_only (features_in at bytes) InNone at bytes (features_judged at bytes are) fault
 
-pub object_fault : (shape : Shape) (at : ℕ) (bytes : List ℕ) → AreBytes bytes → (fault : MessageFault) → (numbers_in shape at bytes ≡ Err fault) ↔ IsFirst (InNumbers shape) at bytes fault
-object_fault shape at bytes are fault = first_only (numbers_in shape at bytes) (InNumbers shape) at bytes (numbers_judged shape at bytes are) fault
+pub object_fault : (kind : ObjectKind) (at : ℕ) (bytes : List ℕ) → AreBytes bytes → (fault : MessageFault) → (numbers_in (shape_of kind) at bytes ≡ Err fault) ↔ IsFirst (InNumbers kind) at bytes fault
+object_fault kind at bytes are fault = first_only (numbers_in (shape_of kind) at bytes) (InNumbers kind) at bytes (numbers_judged kind at bytes are) fault

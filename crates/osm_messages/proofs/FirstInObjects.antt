@@ -1,5 +1,5 @@
 -- The fault of a header, of a string table and of an object's numbers is the first that stands there.
-use Rattle.std.proofs.Common.{◌≡◌, ℕ, ◌+◌, ◌<◌, ◌≤◌, cond, eqb, ◌||◌, Bool, true, false, List, [], ◌∷◌, ◌++◌, length, Some, None, Ok, Err, refl, sym, ap, ◌∙◌, arith, inl, inr, length-append}
+use Rattle.std.proofs.Common.{◌≡◌, ℕ, ◌+◌, ◌<◌, ◌≤◌, cond, eqb, ◌||◌, Bool, true, false, List, [], ◌∷◌, ◌++◌, length, Some, None, Ok, Err, refl, sym, ap, ◌∙◌, arith, inl, inr, length-append, subst}
 use Rattle.wire_read.specs.declared.fault.WireFault.{WireFault}
 use Rattle.wire_read.specs.declared.fault.WireFault.TheVariants as wires
 use Rattle.wire_read.specs.Varint.{AreBytes}
@@ -12,11 +12,12 @@ use Rattle.osm_messages.specs.declared.fault.MessageFault.TheVariants as faults
 use Rattle.osm_messages.specs.Walks.{◌>>=◌, ended, walk}
 use Rattle.osm_messages.specs.Texts.{text_step, texts_in}
 use Rattle.osm_messages.specs.Headers.{feature_step, features_in}
-use Rattle.osm_messages.specs.Numbers.{Shape, is_among, with_number, with_packed, with_held, number_step, numbers_in}
-use Rattle.osm_messages.specs.Means.{Part}
+use Rattle.osm_messages.specs.declared.kind.ObjectKind.{ObjectKind}
+use Rattle.osm_messages.specs.Numbers.{Shape, shape_of, is_among, with_number, with_packed, with_held, number_step, numbers_in}
+use Rattle.osm_messages.specs.Means.{Part, holds_many}
 use Rattle.osm_messages.specs.Faults.{wire_place, place_of, InNone, InPacked, InList, InNumbers, StandsIn}
 use Rattle.osm_messages.proofs.Meant.{err_not_ok, InBytes}
-use Rattle.osm_messages.proofs.MeantNumbers.{take_step, with_numbers}
+use Rattle.osm_messages.proofs.MeantNumbers.{take_step, with_numbers, many_same}
 use Rattle.osm_messages.proofs.FirstFaults.{Faulty, Judged, err_is, message_within, message_judged}
 
 -- ---- headers and string tables
@@ -144,18 +145,21 @@ list_within is_list at (Fixed64 n) g stands = absurd stands
 list_within is_list at (Bytes bytes) g stands = packed_within bytes at g stands.1
 list_within is_list at (Fixed32 n) g stands = absurd stands
 
-numbers_faulty : (shape : Shape) → Faulty (number_step shape) Any (InNumbers shape)
-numbers_faulty shape = record {
-  refused = λ before s x d holds le inv e. (held_judged shape x.number x.body_at x.content s holds).refused d e;
-  taken = λ before s u x holds le inv e. (tt, (held_judged shape x.number x.body_at x.content s holds).taken u e);
+in_list : (kind : ObjectKind) (field at : ℕ) (content : Content) (s : List (ℕ × ℕ)) → InBytes content → Judged (with_held (shape_of kind) field at content s) (InList (holds_many kind field) at content)
+in_list kind field at content s holds = subst (λ (b : Bool). Judged (with_held (shape_of kind) field at content s) (InList b at content)) (many_same kind field) (held_judged (shape_of kind) field at content s holds)
+
+numbers_faulty : (kind : ObjectKind) → Faulty (number_step (shape_of kind)) Any (InNumbers kind)
+numbers_faulty kind = record {
+  refused = λ before s x d holds le inv e. (in_list kind x.number x.body_at x.content s holds).refused d e;
+  taken = λ before s u x holds le inv e. (tt, (in_list kind x.number x.body_at x.content s holds).taken u e);
   within = λ before x g le stands.
-      let w = list_within (is_among x.number shape.lists) x.body_at x.content g stands in
+      let w = list_within (holds_many kind x.number) x.body_at x.content g stands in
       (omega (arith, le, w.0), w.1);
 }
 
-pub numbers_judged : (shape : Shape) (at : ℕ) (bytes : List ℕ) → AreBytes bytes → Judged (numbers_in shape at bytes) (StandsIn (InNumbers shape) at bytes)
+pub numbers_judged : (kind : ObjectKind) (at : ℕ) (bytes : List ℕ) → AreBytes bytes → Judged (numbers_in (shape_of kind) at bytes) (StandsIn (InNumbers kind) at bytes)
 unfolding numbers_in
-numbers_judged shape at bytes are = message_judged (number_step shape) Any (InNumbers shape) (numbers_faulty shape) [] at bytes are tt
+numbers_judged kind at bytes are = message_judged (number_step (shape_of kind)) Any (InNumbers kind) (numbers_faulty kind) [] at bytes are tt
 
-pub numbers_within : (shape : Shape) (at : ℕ) (bytes : List ℕ) (g : MessageFault) → StandsIn (InNumbers shape) at bytes g → (at ≤ place_of g) × (place_of g < at + length bytes)
-numbers_within shape at bytes g stands = message_within (number_step shape) Any (InNumbers shape) (numbers_faulty shape) at bytes g stands
+pub numbers_within : (kind : ObjectKind) (at : ℕ) (bytes : List ℕ) (g : MessageFault) → StandsIn (InNumbers kind) at bytes g → (at ≤ place_of g) × (place_of g < at + length bytes)
+numbers_within kind at bytes g stands = message_within (number_step (shape_of kind)) Any (InNumbers kind) (numbers_faulty kind) at bytes g stands

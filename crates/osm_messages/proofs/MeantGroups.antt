@@ -14,7 +14,7 @@ use Rattle.osm_messages.specs.declared.kind.ObjectKind.TheVariants as kinds
 use Rattle.osm_messages.specs.Walks.{◌>>=◌, with_bytes}
 use Rattle.osm_messages.specs.Numbers.{shape_of, numbers_in}
 use Rattle.osm_messages.specs.Groups.{Object, is_dense, has_dense, with_object, with_dense, object_of, with_member, group_step, group_in}
-use Rattle.osm_messages.specs.Means.{kind_of, object_by, held_object, objects_in, dense_among, SpellsObject, IsGroup}
+use Rattle.osm_messages.specs.Means.{kind_of, object_by, held_object, objects_in, is_dense_message, dense_among, SpellsObject, IsGroup}
 use Rattle.osm_messages.proofs.Meant.{ok_is, parts_of, InBytes, HoldsBytes, IsMeant, message_means, moved, stopped, one_more}
 use Rattle.osm_messages.proofs.MeantNumbers.{object_means}
 
@@ -41,12 +41,19 @@ one_by true false count One rest = (λ w. omega (arith, (rest true).0 w.1), λ f
 one_by false true count One rest = (λ w. omega (arith, (rest true).0 w.1), λ few. (refl, (rest true).1 (omega arith)))
 one_by false false count One rest = (λ w. omega (arith, (rest false).0 w.1), λ few. (refl, (rest false).1 (omega arith)))
 
+pub dense_same : (kind : ObjectKind) → is_dense kind ≡ is_dense_message kind
+dense_same kinds.Node = refl
+dense_same kinds.Dense = refl
+dense_same kinds.Way = refl
+dense_same kinds.Relation = refl
+
 one_dense : (objects : List Object) (had : Bool) → OneDense had objects ↔ (length (dense_among objects) + count_of had ≤ 1)
 one_dense [] true = (λ _. omega arith, λ _. tt)
 one_dense [] false = (λ _. omega arith, λ _. tt)
 one_dense (object ∷ objects) had =
     let both = one_by (is_dense object.kind) had (length (dense_among objects)) (λ h. OneDense h objects) (one_dense objects) in
-    let count = counted (is_dense object.kind) object (dense_among objects) in (
+    let count : length (dense_among (object ∷ objects)) ≡ count_of (is_dense object.kind) + length (dense_among objects) =
+    ap (λ b. length (cond b (object ∷ dense_among objects) (dense_among objects))) (sym (dense_same object.kind)) ∙ counted (is_dense object.kind) object (dense_among objects) in (
       λ w. omega (arith, both.0 w, count),
       λ few. both.1 (omega (arith, few, count)),
     )
@@ -78,7 +85,7 @@ added true objects more t at object are is =
     never e = cc
 added false objects more t at object are is =
     let shape = shape_of object.kind in
-    let spelled = object_means shape object.at object.bytes are in
+    let spelled = object_means object.kind object.at object.bytes are in
     let here = objects ++ object ∷ [] in (
       λ w.
           let numbers = parts_of (numbers_in shape object.at object.bytes) (λ _. Ok here) w.0 w.1 in

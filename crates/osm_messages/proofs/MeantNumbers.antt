@@ -11,8 +11,10 @@ use Rattle.osm_messages.specs.declared.fault.MessageFault.{MessageFault}
 use Rattle.osm_messages.specs.Walks.{steps, walk, with_bytes}
 use Rattle.osm_messages.specs.Texts.{text_step, texts_in}
 use Rattle.osm_messages.specs.Headers.{feature_step, features_in}
-use Rattle.osm_messages.specs.Numbers.{Shape, is_among, with_number, with_packed, with_held, number_step, numbers_in}
-use Rattle.osm_messages.specs.Means.{Part, held_part, parts, Together, IsHeader, IsTable, HoldsPacked, HoldsNumbers, GivesNumbers, IsObject}
+use Rattle.osm_messages.specs.declared.kind.ObjectKind.{ObjectKind}
+use Rattle.osm_messages.specs.declared.kind.ObjectKind.TheVariants as kinds
+use Rattle.osm_messages.specs.Numbers.{Shape, shape_of, is_among, with_number, with_packed, with_held, number_step, numbers_in}
+use Rattle.osm_messages.specs.Means.{Part, held_part, parts, Together, IsHeader, IsTable, holds_one, holds_many, HoldsPacked, HoldsNumbers, GivesNumbers, IsObject}
 use Rattle.osm_messages.proofs.Walks.{bind_ok}
 use Rattle.osm_messages.proofs.Meant.{ok_is, not_broken, InBytes, HoldsBytes, IsMeant, message_means, Behind, Appends, appends_meant, via, moved, one_more}
 
@@ -132,22 +134,61 @@ holds_packed true field at bytes are s u =
     )
 holds_packed false field at bytes are s u = holds_none field s u
 
-held_means : (shape : Shape) (field at : ℕ) (content : Content) → InBytes content → (s u : List (ℕ × ℕ)) → (with_held shape field at content s ≡ Ok u) ↔ HeldBehind field (HoldsNumbers shape field content) s u
-held_means shape field at (Varint n) holds s u = holds_varint (is_among field shape.singles || is_among field shape.lists) field n s u
-held_means shape field at (Fixed64 n) holds s u = holds_none field s u
-held_means shape field at (Bytes bytes) holds s u = holds_packed (is_among field shape.lists) field at bytes holds s u
-held_means shape field at (Fixed32 n) holds s u = holds_none field s u
+-- the fields that the program reads are those of the format
+or_one : (a : Bool) → (a || false) ≡ a
+or_one true = refl
+or_one false = refl
 
-numbers_append : (shape : Shape) → Appends (number_step shape) HoldsBytes (GivesNumbers shape)
-numbers_append shape s u field holds = held_means shape field.number field.body_at field.content holds s u
+or_two : (a b : Bool) → (a || (b || false)) ≡ (a || b)
+or_two true b = refl
+or_two false b = or_one b
 
-pub object_means : (shape : Shape) (at : ℕ) (bytes : List ℕ) → AreBytes bytes → (numbers : List (ℕ × ℕ)) → (numbers_in shape at bytes ≡ Ok numbers) ↔ IsObject shape at bytes numbers
+or_three : (a b c : Bool) → (a || (b || (c || false))) ≡ (a || b || c)
+or_three true b c = refl
+or_three false b c = or_two b c
+
+or_four : (a b c d : Bool) → (a || (b || (c || (d || false)))) ≡ (a || b || c || d)
+or_four true b c d = refl
+or_four false b c d = or_three b c d
+
+or_five : (a b c d e : Bool) → (a || (b || (c || (d || (e || false))))) ≡ (a || b || c || d || e)
+or_five true b c d e = refl
+or_five false b c d e = or_four b c d e
+
+one_same : (kind : ObjectKind) (n : ℕ) → is_among n (shape_of kind).singles ≡ holds_one kind n
+one_same kinds.Node n = or_three (eqb n 1) (eqb n 8) (eqb n 9)
+one_same kinds.Dense n = refl
+one_same kinds.Way n = or_one (eqb n 1)
+one_same kinds.Relation n = or_one (eqb n 1)
+
+pub many_same : (kind : ObjectKind) (n : ℕ) → is_among n (shape_of kind).lists ≡ holds_many kind n
+many_same kinds.Node n = or_two (eqb n 2) (eqb n 3)
+many_same kinds.Dense n = or_four (eqb n 1) (eqb n 8) (eqb n 9) (eqb n 10)
+many_same kinds.Way n = or_three (eqb n 2) (eqb n 3) (eqb n 8)
+many_same kinds.Relation n = or_five (eqb n 2) (eqb n 3) (eqb n 8) (eqb n 9) (eqb n 10)
+
+held_means : (kind : ObjectKind) (field at : ℕ) (content : Content) → InBytes content → (s u : List (ℕ × ℕ)) → (with_held (shape_of kind) field at content s ≡ Ok u) ↔ HeldBehind field (HoldsNumbers kind field content) s u
+held_means kind field at (Varint n) holds s u =
+    let single = is_among field (shape_of kind).singles in
+    let some = is_among field (shape_of kind).lists in
+    subst (λ (b : Bool). (with_held (shape_of kind) field at (Varint n) s ≡ Ok u) ↔ HeldBehind field (λ held. held ≡ cond (holds_one kind field || b) (n ∷ []) []) s u) (many_same kind field)
+    (subst (λ (b : Bool). (with_held (shape_of kind) field at (Varint n) s ≡ Ok u) ↔ HeldBehind field (λ held. held ≡ cond (b || some) (n ∷ []) []) s u) (one_same kind field) (holds_varint (single || some) field n s u))
+held_means kind field at (Fixed64 n) holds s u = holds_none field s u
+held_means kind field at (Bytes bytes) holds s u =
+    let some = is_among field (shape_of kind).lists in
+    subst (λ (b : Bool). (with_held (shape_of kind) field at (Bytes bytes) s ≡ Ok u) ↔ HeldBehind field (HoldsPacked b bytes) s u) (many_same kind field) (holds_packed some field at bytes holds s u)
+held_means kind field at (Fixed32 n) holds s u = holds_none field s u
+
+numbers_append : (kind : ObjectKind) → Appends (number_step (shape_of kind)) HoldsBytes (GivesNumbers kind)
+numbers_append kind s u field holds = held_means kind field.number field.body_at field.content holds s u
+
+pub object_means : (kind : ObjectKind) (at : ℕ) (bytes : List ℕ) → AreBytes bytes → (numbers : List (ℕ × ℕ)) → (numbers_in (shape_of kind) at bytes ≡ Ok numbers) ↔ IsObject kind at bytes numbers
 unfolding numbers_in
-object_means shape at bytes are numbers =
-    let meant = appends_meant (number_step shape) HoldsBytes (GivesNumbers shape) (numbers_append shape) in
-    let both = message_means (number_step shape) (Behind (GivesNumbers shape)) meant [] numbers at bytes are in (
+object_means kind at bytes are numbers =
+    let meant = appends_meant (number_step (shape_of kind)) HoldsBytes (GivesNumbers kind) (numbers_append kind) in
+    let both = message_means (number_step (shape_of kind)) (Behind (GivesNumbers kind)) meant [] numbers at bytes are in (
       λ e.
           let by = both.0 e in
-          record { fields = by.fields; spells = by.spells; numbers_are = subst (λ (w : List (ℕ × ℕ)). Together (GivesNumbers shape) by.fields w) (sym by.leads.2) by.leads.1 },
+          record { fields = by.fields; spells = by.spells; numbers_are = subst (λ (w : List (ℕ × ℕ)). Together (GivesNumbers kind) by.fields w) (sym by.leads.2) by.leads.1 },
       λ is. both.1 (record { fields = is.fields; spells = is.spells; leads = (numbers, is.numbers_are, refl) }),
     )

@@ -7,9 +7,10 @@ use Rattle.wire_read.specs.Numbers.{BreaksNumbers}
 use Rattle.wire_read.specs.Fields.{Content, Varint, Fixed64, Bytes, Fixed32, WireField, SpellsFields, BreaksFields}
 use Rattle.osm_messages.specs.declared.fault.MessageFault.{MessageFault}
 use Rattle.osm_messages.specs.declared.fault.MessageFault.TheVariants as faults
-use Rattle.osm_messages.specs.Numbers.{Shape, shape_of, is_among}
-use Rattle.osm_messages.specs.Groups.{Object, is_dense, has_dense}
-use Rattle.osm_messages.specs.Means.{Part, held_part, parts, held_object, objects_in}
+use Rattle.osm_messages.specs.declared.kind.ObjectKind.{ObjectKind}
+use Rattle.std.specs.List.{list_any}
+use Rattle.osm_messages.specs.Groups.{Object}
+use Rattle.osm_messages.specs.Means.{Part, held_part, parts, holds_many, is_dense_message, held_object, objects_in}
 
 -- ---- places
 
@@ -77,19 +78,23 @@ InList listed at (Fixed64 n) fault = ⊥
 InList listed at (Bytes bytes) fault = (listed ≡ true) × InPacked at bytes fault
 InList listed at (Fixed32 n) fault = ⊥
 
-abbrev pub InNumbers : Shape → InField
-InNumbers shape before field fault = InList (is_among field.number shape.lists) field.body_at field.content fault
+abbrev pub InNumbers : ObjectKind → InField
+InNumbers kind before field fault = InList (holds_many kind field.number) field.body_at field.content fault
 
 -- ---- in a group: a second dense message, or a fault of an object
 
 abbrev pub InObject : Bool → ℕ → Option Object → MessageFault → Type 0
 InObject dense_before at None fault = ⊥
 InObject dense_before at (Some object) fault =
-    (((is_dense object.kind && dense_before) ≡ true) × (fault ≡ faults.Repeated at 2))
-    ⊎ StandsIn (InNumbers (shape_of object.kind)) object.at object.bytes fault
+    (((is_dense_message object.kind && dense_before) ≡ true) × (fault ≡ faults.Repeated at 2))
+    ⊎ StandsIn (InNumbers object.kind) object.at object.bytes fault
+
+-- one of the objects is a dense message
+abbrev pub has_dense_message : List Object → Bool
+has_dense_message objects = list_any (λ (object : Object). is_dense_message object.kind) objects
 
 abbrev pub InMember : InField
-InMember before field fault = InObject (has_dense (objects_in before)) field.at (held_object field.number field.body_at field.content) fault
+InMember before field fault = InObject (has_dense_message (objects_in before)) field.at (held_object field.number field.body_at field.content) fault
 
 -- ---- in a block: a second string table, or a fault of a table or a group
 

@@ -8,8 +8,7 @@ use Rattle.wire_read.specs.Numbers.{SpellsNumbers}
 use Rattle.wire_read.specs.Fields.{Content, Varint, Fixed64, Bytes, Fixed32, WireField, SpellsFields}
 use Rattle.osm_messages.specs.declared.kind.ObjectKind.{ObjectKind}
 use Rattle.osm_messages.specs.declared.kind.ObjectKind.TheVariants as kinds
-use Rattle.osm_messages.specs.Numbers.{Shape, shape_of, is_among}
-use Rattle.osm_messages.specs.Groups.{Object, is_dense}
+use Rattle.osm_messages.specs.Groups.{Object}
 use Rattle.osm_messages.specs.Blocks.{Block}
 
 -- ---- what fields hold
@@ -65,27 +64,42 @@ pub record IsTable (at : ℕ) (bytes : List ℕ) (texts : List (List ℕ)) : Typ
 
 -- ---- the numbers of an object
 
+-- the fields that hold one number: the id, latitude and longitude of a node, the id of a way and of a relation
+abbrev pub holds_one : ObjectKind → ℕ → Bool
+holds_one kinds.Node number = number == 1 || number == 8 || number == 9
+holds_one kinds.Dense number = false
+holds_one kinds.Way number = number == 1
+holds_one kinds.Relation number = number == 1
+
+-- the fields that hold a list of numbers: keys and values of a node; ids, latitudes, longitudes, and keys and values of
+-- a dense message; keys, values and refs of a way; keys, values, and roles, ids and types of the members of a relation
+abbrev pub holds_many : ObjectKind → ℕ → Bool
+holds_many kinds.Node number = number == 2 || number == 3
+holds_many kinds.Dense number = number == 1 || number == 8 || number == 9 || number == 10
+holds_many kinds.Way number = number == 2 || number == 3 || number == 8
+holds_many kinds.Relation number = number == 2 || number == 3 || number == 8 || number == 9 || number == 10
+
 -- bytes of a list are packed numbers; other bytes are no numbers
 abbrev pub HoldsPacked : Bool → List ℕ → List ℕ → Type 0
 HoldsPacked true bytes held = SpellsNumbers bytes held
 HoldsPacked false bytes held = held ≡ []
 
 -- a varint is one number, alone or of a list
-abbrev pub HoldsNumbers : Shape → ℕ → Content → List ℕ → Type 0
-HoldsNumbers shape number (Varint n) held = held ≡ (if is_among number shape.singles || is_among number shape.lists then n ∷ [] else [])
-HoldsNumbers shape number (Fixed64 n) held = held ≡ []
-HoldsNumbers shape number (Bytes bytes) held = HoldsPacked (is_among number shape.lists) bytes held
-HoldsNumbers shape number (Fixed32 n) held = held ≡ []
+abbrev pub HoldsNumbers : ObjectKind → ℕ → Content → List ℕ → Type 0
+HoldsNumbers kind number (Varint n) held = held ≡ (if holds_one kind number || holds_many kind number then n ∷ [] else [])
+HoldsNumbers kind number (Fixed64 n) held = held ≡ []
+HoldsNumbers kind number (Bytes bytes) held = HoldsPacked (holds_many kind number) bytes held
+HoldsNumbers kind number (Fixed32 n) held = held ≡ []
 
 -- the numbers that a field holds, each with the number of the field
-abbrev pub GivesNumbers : Shape → WireField → List (ℕ × ℕ) → Type 0
-GivesNumbers shape field given = (held : List ℕ) × HoldsNumbers shape field.number field.content held × (given ≡ map (λ n. (field.number, n)) held)
+abbrev pub GivesNumbers : ObjectKind → WireField → List (ℕ × ℕ) → Type 0
+GivesNumbers kind field given = (held : List ℕ) × HoldsNumbers kind field.number field.content held × (given ≡ map (λ n. (field.number, n)) held)
 
 -- an object's numbers are those of its fields
-pub record IsObject (shape : Shape) (at : ℕ) (bytes : List ℕ) (numbers : List (ℕ × ℕ)) : Type 0 where
+pub record IsObject (kind : ObjectKind) (at : ℕ) (bytes : List ℕ) (numbers : List (ℕ × ℕ)) : Type 0 where
   pub fields : List WireField
   pub spells : SpellsFields bytes at fields
-  pub numbers_are : Together (GivesNumbers shape) fields numbers
+  pub numbers_are : Together (GivesNumbers kind) fields numbers
 
 -- ---- a group
 
@@ -112,12 +126,18 @@ held_object number at (Fixed32 n) = None
 abbrev pub objects_in : List WireField → List Object
 objects_in fields = filter_map (λ (field : WireField). held_object field.number field.body_at field.content) fields
 
+abbrev pub is_dense_message : ObjectKind → Bool
+is_dense_message kinds.Node = false
+is_dense_message kinds.Dense = true
+is_dense_message kinds.Way = false
+is_dense_message kinds.Relation = false
+
 abbrev pub dense_among : List Object → List Object
-dense_among objects = filter (λ (object : Object). is_dense object.kind) objects
+dense_among objects = filter (λ (object : Object). is_dense_message object.kind) objects
 
 -- an object has numbers
 abbrev pub SpellsObject : Object → Type 0
-SpellsObject object = (numbers : List (ℕ × ℕ)) × IsObject (shape_of object.kind) object.at object.bytes numbers
+SpellsObject object = (numbers : List (ℕ × ℕ)) × IsObject object.kind object.at object.bytes numbers
 
 -- a group's objects are its fields 1 to 4, at most one of them is dense, and each has numbers
 pub record IsGroup (at : ℕ) (bytes : List ℕ) (objects : List Object) : Type 0 where

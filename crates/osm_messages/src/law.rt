@@ -3,7 +3,8 @@
 ghost use Rattle.std.specs.Prelude.{◌≡◌, ◌↔◌, ℕ, List, Ok, Err};
 ghost use Rattle.wire_read.specs.Varint.{AreBytes};
 ghost use Rattle.osm_messages.specs.declared.fault.MessageFault.{MessageFault};
-ghost use Rattle.osm_messages.specs.Numbers.{Shape, numbers_in};
+ghost use Rattle.osm_messages.specs.declared.kind.ObjectKind.{ObjectKind};
+ghost use Rattle.osm_messages.specs.Numbers.{shape_of, numbers_in};
 ghost use Rattle.osm_messages.specs.Blocks.{Block, block_in};
 ghost use Rattle.osm_messages.specs.Headers.{features_in};
 ghost use Rattle.osm_messages.specs.Means.{IsBlock, IsHeader, IsObject};
@@ -14,8 +15,8 @@ ghost use Rattle.osm_messages.specs.Faults.{InNone, InNumbers, InBlock, IsFirst}
 pub fn block_law()
     ensures block { (at : ℕ) (bytes : List ℕ) → AreBytes bytes → (block : Block) → (block_in at bytes ≡ Ok block) ↔ IsBlock at bytes block }
     ensures header { (at : ℕ) (bytes : List ℕ) → AreBytes bytes → (features : List (ℕ × List ℕ)) → (features_in at bytes ≡ Ok features) ↔ IsHeader at bytes features }
-    ensures object { (shape : Shape) (at : ℕ) (bytes : List ℕ) → AreBytes bytes → (numbers : List (ℕ × ℕ)) → (numbers_in shape at bytes ≡ Ok numbers) ↔ IsObject shape at bytes numbers }
+    ensures object { (kind : ObjectKind) (at : ℕ) (bytes : List ℕ) → AreBytes bytes → (numbers : List (ℕ × ℕ)) → (numbers_in (shape_of kind) at bytes ≡ Ok numbers) ↔ IsObject kind at bytes numbers }
     ensures block_fault { (at : ℕ) (bytes : List ℕ) → AreBytes bytes → (fault : MessageFault) → (block_in at bytes ≡ Err fault) ↔ IsFirst InBlock at bytes fault }
     ensures header_fault { (at : ℕ) (bytes : List ℕ) → AreBytes bytes → (fault : MessageFault) → (features_in at bytes ≡ Err fault) ↔ IsFirst InNone at bytes fault }
-    ensures object_fault { (shape : Shape) (at : ℕ) (bytes : List ℕ) → AreBytes bytes → (fault : MessageFault) → (numbers_in shape at bytes ≡ Err fault) ↔ IsFirst (InNumbers shape) at bytes fault }
+    ensures object_fault { (kind : ObjectKind) (at : ℕ) (bytes : List ℕ) → AreBytes bytes → (fault : MessageFault) → (numbers_in (shape_of kind) at bytes ≡ Err fault) ↔ IsFirst (InNumbers kind) at bytes fault }
 {}

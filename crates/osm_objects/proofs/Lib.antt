@@ -13,3 +13,10 @@ pub mod DenseChain
 pub mod BlockLoop
 pub mod Placed
 pub mod NoMemory
+pub mod LawParts
+pub mod LawNames
+pub mod LawPlaces
+pub mod LawRanks
+pub mod LawFirst
+pub mod LawKinds
+pub mod LawBlocks

@@ -13,3 +13,5 @@ pub mod Relations
 pub mod Objects
 pub mod Answers
 pub mod Seen
+pub mod Means
+pub mod Causes

@@ -7,6 +7,7 @@ mod entry;
 mod fault;
 mod groups;
 mod kept;
+mod law;
 mod nodes;
 mod objects;
 mod parts;
@@ -18,6 +19,7 @@ mod texts;
 mod ways;
 
 pub use fault::ObjectFault;
+pub use law::object_law;
 pub use objects::{ObjectLists, add_objects};
 
 #[cfg(test)]

@@ -1,6 +1,7 @@
 pub mod Filling
 pub mod Walking
 pub mod HeaderParts
+pub mod HeldFields
 pub mod MessageReads
 pub mod Starts
 pub mod PlainFront

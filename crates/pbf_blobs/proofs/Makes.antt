@@ -10,7 +10,8 @@ use Rattle.pbf_blobs.specs.declared.blob.Head.{Head}
 use Rattle.pbf_blobs.specs.declared.fault.PbfFault.{PbfFault}
 use Rattle.pbf_blobs.specs.declared.fault.PbfFault.TheVariants as faults
 use Rattle.pbf_blobs.specs.Messages.{bytes_in, varints_in, last_of}
-use Rattle.pbf_blobs.specs.Triple.{is_known, IsBlob}
+use Rattle.pbf_blobs.specs.Triple.{is_known, IsBlob, HoldsBytes, HoldsVarint, NoneHolds}
+use Rattle.pbf_blobs.proofs.HeldFields.{last_bytes, last_varint, no_bytes, no_varint, none_between, first_is, known_type, known_same}
 use Rattle.pbf_blobs.specs.Next.{Outcome, Ends, Gives, Fails, kind_and_size, header_of, raw_payload, payload_of, blob_of, paid, raw_of, bodied, sized, headed, framed, measured, next_of}
 use Rattle.pbf_blobs.specs.Means.{HasLength, HasHeader, HasSize, HasFittingSize, HasKnownBlob, LacksField, HasBadType, HasCompressed, LacksPayload, BeginsWithTriple, MeansFault, Means}
 use Rattle.pbf_blobs.proofs.Starts.{next_of-ends, next_of-cut, next_of-measured, measured-long, measured-framed}
@@ -100,15 +101,20 @@ next_of-unpaid at rest start body fault has e =
     let head = head_of at has.header has.kind (length body) in
     next_of-fitting at rest has.header has.kind (length body) (body ++ has.after) has.has
     ∙ bodied-there head body has.after refl
-    ∙ ap (paid head) (raw_of-known head body has.known ∙ ap (λ n. payload_of n body) (sym has.start_is) ∙ e)
+    ∙ ap (paid head) (raw_of-known head body ((known_type has.kind).1 has.known) ∙ ap (λ n. payload_of n body) (sym has.start_is) ∙ e)
 
 -- ---- each fault of the header
 
 makes_lacks_field : (at : ℕ) (rest : List ℕ) (number : ℕ) → LacksField at rest number → next_of at rest ≡ Fails (faults.MissingField (at + 4) number)
 makes_lacks_field at rest number lacks =
     next_of-found at rest lacks.header lacks.has.after (Err (faults.MissingField (at + 4) number)) lacks.has.has
-    (header_of-fields (at + 4) lacks.header lacks.fields lacks.has.spells ∙ missing lacks.lacks)
+    (header_of-fields (at + 4) lacks.header lacks.fields lacks.has.spells ∙ missing (said lacks.lacks))
   where
+    said : ((number ≡ 1) × NoneHolds (HoldsBytes 1) lacks.fields) ⊎ ((number ≡ 3) × (NoneHolds (HoldsBytes 1) lacks.fields → ⊥) × NoneHolds (HoldsVarint 3) lacks.fields)
+        → ((number ≡ 1) × (bytes_in 1 lacks.fields ≡ [])) ⊎ ((number ≡ 3) × (bytes_in 1 lacks.fields ≡ [] → ⊥) × (varints_in 3 lacks.fields ≡ []))
+    said (inl (is, none)) = inl (is, (no_bytes 1 lacks.fields).1 none)
+    said (inr (is, some, none)) = inr (is, λ e. some ((no_bytes 1 lacks.fields).0 e), (no_varint 3 lacks.fields).1 none)
+
     missing : ((number ≡ 1) × (bytes_in 1 lacks.fields ≡ [])) ⊎ ((number ≡ 3) × (bytes_in 1 lacks.fields ≡ [] → ⊥) × (varints_in 3 lacks.fields ≡ []))
         → kind_and_size (at + 4) (last_of (bytes_in 1 lacks.fields)) (last_of (varints_in 3 lacks.fields)) ≡ Err (faults.MissingField (at + 4) number)
     missing (inl (number_is, none)) =
@@ -124,8 +130,8 @@ makes_bad_type : (at : ℕ) (rest : List ℕ) → HasBadType at rest → next_of
 makes_bad_type at rest bad =
     next_of-found at rest bad.header bad.has.after (Err (faults.BadType (at + 4))) bad.has.has
     (header_of-fields (at + 4) bad.header bad.fields bad.has.spells
-    ∙ ap (λ k. kind_and_size (at + 4) k (last_of (varints_in 3 bad.fields))) bad.is_kind
-    ∙ ap (kind_and_size (at + 4) (Some (bad.kind_at, bad.kind))) bad.is_size
+    ∙ ap (λ k. kind_and_size (at + 4) k (last_of (varints_in 3 bad.fields))) ((last_bytes 1 bad.fields (bad.kind_at, bad.kind)).1 bad.is_kind)
+    ∙ ap (kind_and_size (at + 4) (Some (bad.kind_at, bad.kind))) ((last_varint 3 bad.fields bad.size).1 bad.is_size)
     ∙ kind_and_size_none (at + 4) (bad.kind_at, bad.kind) bad.size bad.no_text)
 
 -- ---- each fault of the Blob
@@ -134,15 +140,15 @@ makes_compressed : (at : ℕ) (rest : List ℕ) (start number : ℕ) → HasComp
 makes_compressed at rest start number has =
     next_of-unpaid at rest start has.body (faults.Compressed start number) has.has
     (payload_of-fields start has.body has.fields has.spells
-    ∙ ap (λ c. raw_payload start c (last_of (bytes_in 1 has.fields))) has.first
+    ∙ ap (λ c. raw_payload start c (last_of (bytes_in 1 has.fields))) ((first_is 3 7 has.fields has.compressed).1 has.first)
     ∙ ap (λ n. Err (faults.Compressed start n)) has.number_is)
 
 makes_lacks_payload : (at : ℕ) (rest : List ℕ) (start : ℕ) → LacksPayload at start rest → next_of at rest ≡ Fails (faults.NoPayload start)
 makes_lacks_payload at rest start lacks =
     next_of-unpaid at rest start lacks.body (faults.NoPayload start) lacks.has
     (payload_of-fields start lacks.body lacks.fields lacks.spells
-    ∙ ap (λ c. raw_payload start c (last_of (bytes_in 1 lacks.fields))) lacks.not_compressed
-    ∙ ap (λ xs. raw_payload start None (last_of xs)) lacks.no_raw)
+    ∙ ap (λ c. raw_payload start c (last_of (bytes_in 1 lacks.fields))) ((none_between 3 7 lacks.fields).1 lacks.not_compressed)
+    ∙ ap (λ xs. raw_payload start None (last_of xs)) ((no_bytes 1 lacks.fields).1 lacks.no_raw))
 
 -- ---- a triple
 
@@ -190,7 +196,7 @@ makes_triple at rest blob begins =
     let head = head_of at header blob.kind blob.size in
     next_of-fitting at rest header blob.kind blob.size (t.body ++ begins.after) has
     ∙ bodied-there head t.body begins.after t.size
-    ∙ paid-blob head t.body blob (sym t.is_known) (sym t.place) refl refl end t.is_blob
+    ∙ paid-blob head t.body blob (known_same blob.kind blob.known t.known) (sym t.place) refl refl end t.is_blob
 
 -- ---- each outcome is made by its cause
 

@@ -13,6 +13,7 @@ use Rattle.pbf_blobs.specs.declared.blob.Blob.{Blob}
 use Rattle.pbf_blobs.specs.declared.fault.PbfFault.TheVariants as faults
 use Rattle.pbf_blobs.specs.Messages.{bytes_in, varints_in, last_of, first_between}
 use Rattle.pbf_blobs.specs.Triple.{is_known, IsHeader, IsRawBlob, IsBlob, IsTriple}
+use Rattle.pbf_blobs.proofs.HeldFields.{last_bytes, last_varint, no_bytes, no_varint, none_between, first_is, known_type, known_so}
 use Rattle.pbf_blobs.specs.Next.{Outcome, Ends, Gives, Fails, next_of}
 use Rattle.pbf_blobs.specs.Means.{HasLength, HasHeader, HasSize, HasFittingSize, HasKnownBlob, Means}
 use Rattle.pbf_blobs.proofs.Makes.{length-spelled, makes}
@@ -73,7 +74,7 @@ triple_cause at rest header kind body after has known raw_at raw known_is is_blo
       is_header = has.has.is_header;
       size = refl;
       size_limit = has.size_limit;
-      is_known = sym known_is;
+      known = known_so kind known known_is;
       is_blob = is_blob;
       place = refl;
       end = omega (arith, count);
@@ -86,19 +87,19 @@ cause_of_payload : (at : ℕ) (rest header kind body after : List ℕ) → HasFi
     → (fields : List WireField) → SpellsFields body (at + 4 + length header) fields
     → (compressed : Option WireField) → first_between 3 7 fields ≡ compressed → (raw : Option (ℕ × List ℕ)) → last_of (bytes_in 1 fields) ≡ raw → Caused at rest
 cause_of_payload at rest header kind body after has known fields spells (Some compressed) first raw last =
-    let there : HasKnownBlob at rest (at + 4 + length header) body = record { header = header; kind = kind; after = after; has = has; known = known; start_is = refl } in
+    let there : HasKnownBlob at rest (at + 4 + length header) body = record { header = header; kind = kind; after = after; has = has; known = (known_type kind).0 known; start_is = refl } in
     record {
       outcome = Fails (faults.Compressed (at + 4 + length header) compressed.number);
-      means = record { body = body; has = there; fields = fields; spells = spells; compressed = compressed; first = first; number_is = refl };
+      means = record { body = body; has = there; fields = fields; spells = spells; compressed = compressed; first = (first_is 3 7 fields compressed).0 first; number_is = refl };
     }
 cause_of_payload at rest header kind body after has known fields spells None first None last =
-    let there : HasKnownBlob at rest (at + 4 + length header) body = record { header = header; kind = kind; after = after; has = has; known = known; start_is = refl } in
+    let there : HasKnownBlob at rest (at + 4 + length header) body = record { header = header; kind = kind; after = after; has = has; known = (known_type kind).0 known; start_is = refl } in
     record {
       outcome = Fails (faults.NoPayload (at + 4 + length header));
-      means = record { body = body; has = there; fields = fields; spells = spells; not_compressed = first; no_raw = last_of-none (bytes_in 1 fields) last };
+      means = record { body = body; has = there; fields = fields; spells = spells; not_compressed = (none_between 3 7 fields).0 first; no_raw = (no_bytes 1 fields).0 (last_of-none (bytes_in 1 fields) last) };
     }
 cause_of_payload at rest header kind body after has known fields spells None first (Some raw) last =
-    let is : IsRawBlob (at + 4 + length header) body raw.0 raw.1 = record { fields = fields; spells = spells; not_compressed = first; payload = last } in
+    let is : IsRawBlob (at + 4 + length header) body raw.0 raw.1 = record { fields = fields; spells = spells; not_compressed = (none_between 3 7 fields).0 first; payload = (last_bytes 1 fields raw).0 last } in
     triple_cause at rest header kind body after has true raw.0 raw.1 known is
 
 -- the Blob is whole, and of a type that is known or not
@@ -113,7 +114,7 @@ cause_of_body at rest header kind body after true are has known =
         means = inr (record {
           start = at + 4 + length header;
           body = body;
-          has = record { header = header; kind = kind; after = after; has = has; known = known; start_is = refl };
+          has = record { header = header; kind = kind; after = after; has = has; known = (known_type kind).0 known; start_is = refl };
           fields = broken.0;
           breaks = broken.2;
         });
@@ -158,7 +159,7 @@ cause_of_size at rest header kind size after are has =
 cause_of_text : (at : ℕ) (rest header after : List ℕ) → AreBytes rest → HasHeader rest header after → (fields : List WireField) → SpellsFields header (at + 4) fields
     → (kind : ℕ × List ℕ) → last_of (bytes_in 1 fields) ≡ Some kind → (size : ℕ) → last_of (varints_in 3 fields) ≡ Some size → (text : Bool) → is_utf8 kind.1 ≡ text → Caused at rest
 cause_of_text at rest header after are has fields spells kind is_kind size is_size true text =
-    let is : IsHeader (at + 4) header kind.1 size = record { fields = fields; spells = spells; kind_at = kind.0; is_kind = is_kind; is_size = is_size; text = IsUtf8-from_is_utf8 kind.1 text } in
+    let is : IsHeader (at + 4) header kind.1 size = record { fields = fields; spells = spells; kind_at = kind.0; is_kind = (last_bytes 1 fields kind).0 is_kind; is_size = (last_varint 3 fields size).0 is_size; text = IsUtf8-from_is_utf8 kind.1 text } in
     cause_of_size at rest header kind.1 size after are (record { has = has; is_header = is })
 cause_of_text at rest header after are has fields spells kind is_kind size is_size false text =
     record {
@@ -172,8 +173,8 @@ cause_of_text at rest header after are has fields spells kind is_kind size is_si
           kind_at = kind.0;
           kind = kind.1;
           size = size;
-          is_kind = is_kind;
-          is_size = is_size;
+          is_kind = (last_bytes 1 fields kind).0 is_kind;
+          is_size = (last_varint 3 fields size).0 is_size;
           no_text = λ is. differ (is_utf8 kind.1) text (is_utf8-from_IsUtf8 kind.1 is);
         },
       );
@@ -191,13 +192,13 @@ cause_of_fields : (at : ℕ) (rest header after : List ℕ) → AreBytes rest �
 cause_of_fields at rest header after are has fields spells None no_kind size is_size =
     record {
       outcome = Fails (faults.MissingField (at + 4) 1);
-      means = (refl, record { header = header; fields = fields; has = record { after = after; has = has; spells = spells }; lacks = inl (refl, last_of-none (bytes_in 1 fields) no_kind) });
+      means = (refl, record { header = header; fields = fields; has = record { after = after; has = has; spells = spells }; lacks = inl (refl, (no_bytes 1 fields).0 (last_of-none (bytes_in 1 fields) no_kind)) });
     }
 cause_of_fields at rest header after are has fields spells (Some kind) is_kind None no_size =
     let some : bytes_in 1 fields ≡ [] → ⊥ = λ e. some_none kind (sym is_kind ∙ ap last_of e) in
     record {
       outcome = Fails (faults.MissingField (at + 4) 3);
-      means = (refl, record { header = header; fields = fields; has = record { after = after; has = has; spells = spells }; lacks = inr (refl, some, last_of-none (varints_in 3 fields) no_size) });
+      means = (refl, record { header = header; fields = fields; has = record { after = after; has = has; spells = spells }; lacks = inr (refl, λ none. some ((no_bytes 1 fields).1 none), (no_varint 3 fields).0 (last_of-none (varints_in 3 fields) no_size)) });
     }
 cause_of_fields at rest header after are has fields spells (Some kind) is_kind (Some size) is_size =
     cause_of_text at rest header after are has fields spells kind is_kind size is_size (is_utf8 kind.1) refl

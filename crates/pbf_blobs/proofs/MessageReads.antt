@@ -8,6 +8,7 @@ use Rattle.wire_read.proofs.MessageLaw.{message_of-spelled, message_of-broken, i
 use Rattle.pbf_blobs.specs.declared.fault.PbfFault.TheVariants as faults
 use Rattle.pbf_blobs.specs.Messages.{bytes_in, varints_in, last_of, first_between}
 use Rattle.pbf_blobs.specs.Triple.{IsHeader, IsRawBlob}
+use Rattle.pbf_blobs.proofs.HeldFields.{last_bytes, last_varint, none_between}
 use Rattle.pbf_blobs.specs.Next.{kind_and_size, header_by, header_of, raw_payload, payload_by, payload_of}
 use Rattle.pbf_blobs.proofs.HeaderParts.{kind_and_size_text}
 
@@ -52,8 +53,8 @@ header_of-broken start header fields fault breaks = ap (header_by start) (fields
 pub header_of-header : (start : ℕ) (header kind : List ℕ) (size : ℕ) → IsHeader start header kind size → header_of start header ≡ Ok (kind, size)
 header_of-header start header kind size is =
     header_of-fields start header is.fields is.spells
-    ∙ ap (λ k. kind_and_size start k (last_of (varints_in 3 is.fields))) is.is_kind
-    ∙ ap (kind_and_size start (Some (is.kind_at, kind))) is.is_size
+    ∙ ap (λ k. kind_and_size start k (last_of (varints_in 3 is.fields))) ((last_bytes 1 is.fields (is.kind_at, kind)).1 is.is_kind)
+    ∙ ap (kind_and_size start (Some (is.kind_at, kind))) ((last_varint 3 is.fields size).1 is.is_size)
     ∙ kind_and_size_text start (is.kind_at, kind) size is.text
 
 -- ---- the payload
@@ -69,5 +70,5 @@ payload_of-broken start blob fields fault breaks = ap (payload_by start) (fields
 pub payload_of-raw : (start : ℕ) (blob : List ℕ) (raw_at : ℕ) (raw : List ℕ) → IsRawBlob start blob raw_at raw → payload_of start blob ≡ Ok (raw_at, raw)
 payload_of-raw start blob raw_at raw is =
     payload_of-fields start blob is.fields is.spells
-    ∙ ap (λ c. raw_payload start c (last_of (bytes_in 1 is.fields))) is.not_compressed
-    ∙ ap (raw_payload start None) is.payload
+    ∙ ap (λ c. raw_payload start c (last_of (bytes_in 1 is.fields))) ((none_between 3 7 is.fields).1 is.not_compressed)
+    ∙ ap (raw_payload start None) ((last_bytes 1 is.fields (raw_at, raw)).1 is.payload)

@@ -1,5 +1,5 @@
 -- What stands at a place, in the words of the grammar: each outcome has its one cause.
-use Rattle.std.specs.Prelude.{◌≡◌, ℕ, ◌+◌, ◌^◌, ◌<◌, ◌≤◌, ◌⊎◌, true, List, [], ◌++◌, length, Some, None}
+use Rattle.std.specs.Prelude.{◌≡◌, ℕ, ◌+◌, ◌^◌, ◌<◌, ◌≤◌, ◌⊎◌, List, [], ◌++◌, length}
 use Rattle.std.specs.Int.{w32, to_be_bytes}
 use Rattle.std.specs.Str.{IsUtf8}
 use Rattle.wire_read.specs.declared.fault.WireFault.{WireFault}
@@ -7,8 +7,7 @@ use Rattle.wire_read.specs.Fields.{WireField, SpellsFields, BreaksFields}
 use Rattle.pbf_blobs.specs.declared.blob.Blob.{Blob}
 use Rattle.pbf_blobs.specs.declared.fault.PbfFault.{PbfFault}
 use Rattle.pbf_blobs.specs.declared.fault.PbfFault.TheVariants as faults
-use Rattle.pbf_blobs.specs.Messages.{bytes_in, varints_in, last_of, first_between}
-use Rattle.pbf_blobs.specs.Triple.{is_known, IsHeader, IsTriple}
+use Rattle.pbf_blobs.specs.Triple.{HoldsBytes, HoldsVarint, NoneHolds, IsLastHeld, NoneBetween, IsFirstBetween, IsKnownType, IsHeader, IsTriple}
 use Rattle.pbf_blobs.specs.Next.{Outcome, Ends, Gives, Fails}
 
 -- ---- how far a triple goes
@@ -46,7 +45,7 @@ pub record HasKnownBlob (at : ℕ) (rest : List ℕ) (start : ℕ) (body : List 
   pub kind : List ℕ
   pub after : List ℕ
   pub has : HasFittingSize at rest header kind (length body) (body ++ after)
-  pub known : is_known kind ≡ true
+  pub known : IsKnownType kind
   pub start_is : start ≡ at + 4 + length header
 
 -- ---- the input ends inside
@@ -95,7 +94,7 @@ pub record LacksField (at : ℕ) (rest : List ℕ) (number : ℕ) : Type 0 where
   pub header : List ℕ
   pub fields : List WireField
   pub has : HasFields at rest header fields
-  pub lacks : ((number ≡ 1) × (bytes_in 1 fields ≡ [])) ⊎ ((number ≡ 3) × (bytes_in 1 fields ≡ [] → ⊥) × (varints_in 3 fields ≡ []))
+  pub lacks : ((number ≡ 1) × NoneHolds (HoldsBytes 1) fields) ⊎ ((number ≡ 3) × (NoneHolds (HoldsBytes 1) fields → ⊥) × NoneHolds (HoldsVarint 3) fields)
 
 -- the header has both, and the type is no text
 pub record HasBadType (at : ℕ) (rest : List ℕ) : Type 0 where
@@ -105,8 +104,8 @@ pub record HasBadType (at : ℕ) (rest : List ℕ) : Type 0 where
   pub kind_at : ℕ
   pub kind : List ℕ
   pub size : ℕ
-  pub is_kind : last_of (bytes_in 1 fields) ≡ Some (kind_at, kind)
-  pub is_size : last_of (varints_in 3 fields) ≡ Some size
+  pub is_kind : IsLastHeld (HoldsBytes 1) fields (kind_at, kind)
+  pub is_size : IsLastHeld (HoldsVarint 3) fields size
   pub no_text : IsUtf8 kind → ⊥
 
 -- ---- the size
@@ -147,7 +146,7 @@ pub record HasCompressed (at start : ℕ) (rest : List ℕ) (number : ℕ) : Typ
   pub fields : List WireField
   pub spells : SpellsFields body start fields
   pub compressed : WireField
-  pub first : first_between 3 7 fields ≡ Some compressed
+  pub first : IsFirstBetween 3 7 fields compressed
   pub number_is : compressed.number ≡ number
 
 -- it has neither such a field nor a raw payload
@@ -156,8 +155,8 @@ pub record LacksPayload (at start : ℕ) (rest : List ℕ) : Type 0 where
   pub has : HasKnownBlob at rest start body
   pub fields : List WireField
   pub spells : SpellsFields body start fields
-  pub not_compressed : first_between 3 7 fields ≡ None
-  pub no_raw : bytes_in 1 fields ≡ []
+  pub not_compressed : NoneBetween 3 7 fields
+  pub no_raw : NoneHolds (HoldsBytes 1) fields
 
 -- ---- the outcomes
 

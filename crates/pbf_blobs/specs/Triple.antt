@@ -2,14 +2,58 @@
 -- length, and a Blob of the size that the header gives. Header and Blob are messages. Their fields come in any
 -- order; of one that comes more than once the last counts; other fields mean nothing, and neither does one with
 -- another wire type.
-use Rattle.std.specs.Prelude.{◌≡◌, ℕ, ◌+◌, ◌<◌, ◌≤◌, Bool, true, false, ◌||◌, List, [], ◌∷◌, ◌++◌, length, codes, Some, None}
+use Rattle.std.specs.Prelude.{◌≡◌, ◌⊎◌, ◌↔◌, ℕ, ◌+◌, ◌<◌, ◌≤◌, Bool, true, false, ◌||◌, List, [], ◌∷◌, ◌++◌, length, codes}
 use Rattle.std.specs.Int.{w32, to_be_bytes}
 use Rattle.std.specs.Str.{IsUtf8, bytes_eq}
-use Rattle.wire_read.specs.Fields.{WireField, SpellsFields}
+use Rattle.std.specs.List.{AllByRecursion}
+use Rattle.wire_read.specs.Fields.{Content, Varint, Bytes, WireField, SpellsFields}
 use Rattle.pbf_blobs.specs.declared.blob.Blob.{Blob}
-use Rattle.pbf_blobs.specs.Messages.{bytes_in, varints_in, last_of, first_between}
+
+-- ---- what a field holds
+
+-- the field has this number and holds these bytes, the first of which stands at this place
+abbrev pub HoldsBytes : ℕ → WireField → ℕ × List ℕ → Type 0
+HoldsBytes number field (place, bytes) = (field.number ≡ number) × (field.body_at ≡ place) × (field.content ≡ Bytes bytes)
+
+-- the field has this number and holds this varint
+abbrev pub HoldsVarint : ℕ → WireField → ℕ → Type 0
+HoldsVarint number field n = (field.number ≡ number) × (field.content ≡ Varint n)
+
+-- none of the fields holds a value
+abbrev pub NoneHolds : {A : Type 0} → (WireField → A → Type 0) → List WireField → Type 0
+NoneHolds {A} Holds fields = AllByRecursion (λ (field : WireField). (value : A) → Holds field value → ⊥) fields
+
+-- one of the fields holds this value, and none behind it holds any: the last one counts
+pub record IsLastHeld {A : Type 0} (Holds : WireField → A → Type 0) (fields : List WireField) (value : A) : Type 0 where
+  pub before : List WireField
+  pub field : WireField
+  pub after : List WireField
+  pub parts : fields ≡ before ++ field ∷ after
+  pub holds : Holds field value
+  pub last : NoneHolds Holds after
+
+-- the field's number is in this range
+abbrev pub IsBetween : ℕ → ℕ → WireField → Type 0
+IsBetween least most field = (least ≤ field.number) × (field.number ≤ most)
+
+abbrev pub NoneBetween : ℕ → ℕ → List WireField → Type 0
+NoneBetween least most fields = AllByRecursion (λ (field : WireField). IsBetween least most field → ⊥) fields
+
+-- the first of the fields whose number is in this range
+pub record IsFirstBetween (least most : ℕ) (fields : List WireField) (field : WireField) : Type 0 where
+  pub before : List WireField
+  pub after : List WireField
+  pub parts : fields ≡ before ++ field ∷ after
+  pub between : IsBetween least most field
+  pub first : NoneBetween least most before
+
+-- ---- a triple
 
 -- the types of blobs whose payload is read
+abbrev pub IsKnownType : List ℕ → Type 0
+IsKnownType kind = (kind ≡ codes "OSMHeader") ⊎ (kind ≡ codes "OSMData")
+
+-- the same, computed
 abbrev pub is_known : List ℕ → Bool
 is_known kind = bytes_eq kind (codes "OSMHeader") || bytes_eq kind (codes "OSMData")
 
@@ -19,8 +63,8 @@ pub record IsHeader (start : ℕ) (header kind : List ℕ) (size : ℕ) : Type 0
   pub fields : List WireField
   pub spells : SpellsFields header start fields
   pub kind_at : ℕ
-  pub is_kind : last_of (bytes_in 1 fields) ≡ Some (kind_at, kind)
-  pub is_size : last_of (varints_in 3 fields) ≡ Some size
+  pub is_kind : IsLastHeld (HoldsBytes 1) fields (kind_at, kind)
+  pub is_size : IsLastHeld (HoldsVarint 3) fields size
   pub text : IsUtf8 kind
 
 -- The bytes are a Blob that begins at the place start and isn't compressed: it has none of the fields 3 to 7,
@@ -28,8 +72,8 @@ pub record IsHeader (start : ℕ) (header kind : List ℕ) (size : ℕ) : Type 0
 pub record IsRawBlob (start : ℕ) (bytes : List ℕ) (raw_at : ℕ) (raw : List ℕ) : Type 0 where
   pub fields : List WireField
   pub spells : SpellsFields bytes start fields
-  pub not_compressed : first_between 3 7 fields ≡ None
-  pub payload : last_of (bytes_in 1 fields) ≡ Some (raw_at, raw)
+  pub not_compressed : NoneBetween 3 7 fields
+  pub payload : IsLastHeld (HoldsBytes 1) fields (raw_at, raw)
 
 -- A Blob of a known type that begins at the place start has a raw payload. The Blob of an unknown type isn't
 -- looked at: no bytes, at its own start.
@@ -46,7 +90,7 @@ pub record IsTriple (at : ℕ) (bytes : List ℕ) (blob : Blob) : Type 0 where
   pub is_header : IsHeader (at + 4) header blob.kind blob.size
   pub size : length body ≡ blob.size
   pub size_limit : blob.size ≤ 33554496
-  pub is_known : blob.known ≡ is_known blob.kind
+  pub known : (blob.known ≡ true) ↔ IsKnownType blob.kind
   pub is_blob : IsBlob blob.known (at + 4 + length header) body blob.raw_at blob.raw
   pub place : blob.at ≡ at
   pub end : blob.end ≡ at + length bytes

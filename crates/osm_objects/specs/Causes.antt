@@ -1,0 +1,212 @@
+-- Which faults stand in the objects of a data block, each as a cause with its rank, in the words of the format. Many may
+-- stand there; a reader is told the first one.
+use Rattle.std.specs.Prelude.{FitsSigned, ◌≡◌, ◌≢◌, ◌⊎◌, ℕ, ◌+◌, ◌<◌, ◌≤◌, ℤ, List, [], ◌∷◌, ◌++◌, map, length, Option, Some, None, slice_get}
+use Rattle.std.specs.Int.{w64}
+use Rattle.std.specs.List.{flat_map, AllByRecursion}
+use Rattle.std.specs.Str.{IsUtf8}
+use Rattle.wire_read.specs.ZigZag.{unzigzag_of}
+use Rattle.osm_messages.specs.declared.kind.ObjectKind.{ObjectKind}
+use Rattle.osm_messages.specs.declared.kind.ObjectKind.TheVariants as kinds
+use Rattle.osm_messages.specs.Groups.{Object}
+use Rattle.osm_messages.specs.Blocks.{Block}
+use Rattle.osm_messages.specs.Means.{IsObject}
+use Rattle.osm_objects.specs.declared.fault.ObjectFault.{ObjectFault}
+use Rattle.osm_objects.specs.declared.fault.ObjectFault.TheVariants as faults
+use Rattle.osm_objects.specs.declared.scale.Scale.{Scale}
+use Rattle.osm_objects.specs.Objects.{Objects}
+use Rattle.osm_objects.specs.Means.{Held, held_by, IsLastOf, Some_of, sum_at, IsText, IsKept, ArePairs, AreGroups, IsPlaceAt, IsOnEarth, lat_nano, lon_nano, GivesObjects, units_in}
+
+-- ---- causes and their ranks
+
+pub data ObjectCause : Type 0 where
+  -- the field of this number isn't there
+  Lacks : ℕ → ObjectCause
+  -- lists that belong together differ in length, or a member has a type that isn't one
+  IsOdd : ObjectCause
+  -- a sum of differences isn't a signed number of 64 bits
+  IsPast : ObjectCause
+  -- of the texts that the object names, the one with this place, whose index is that
+  NoText : ℕ → ℕ → ObjectCause
+  -- of the object's nodes, the one with this place, whose id is that
+  NoPlace : ℕ → ℤ → ObjectCause
+
+-- first by the kind of the fault, and then by the place within
+abbrev pub rank_of : ObjectCause → ℕ × ℕ
+rank_of (Lacks number) = (0, number)
+rank_of IsOdd = (1, 0)
+rank_of IsPast = (2, 0)
+rank_of (NoText place index) = (3, place)
+rank_of (NoPlace place id) = (4, place)
+
+abbrev pub IsUpTo : ℕ × ℕ → ℕ × ℕ → Type 0
+IsUpTo one other = (one.0 < other.0) ⊎ ((one.0 ≡ other.0) × (one.1 ≤ other.1))
+
+-- the fault that is answered, for an object whose first byte stands at this place
+abbrev pub fault_of : ℕ → ObjectCause → ObjectFault
+fault_of at (Lacks number) = faults.MissingField at number
+fault_of at IsOdd = faults.Uneven at
+fault_of at IsPast = faults.BadNumber at
+fault_of at (NoText place index) = faults.BadString at index
+fault_of at (NoPlace place id) = faults.BadCoordinate id
+
+-- ---- fields
+
+-- a node needs its fields 1, 8 and 9, a way and a relation their field 1
+abbrev pub IsNeeded : ObjectKind → ℕ → Type 0
+IsNeeded kinds.Node number = (number ≡ 1) ⊎ ((number ≡ 8) ⊎ (number ≡ 9))
+IsNeeded kinds.Dense number = ⊥
+IsNeeded kinds.Way number = number ≡ 1
+IsNeeded kinds.Relation number = number ≡ 1
+
+-- ---- lists that belong together
+
+-- the lists of these two fields
+abbrev pub Differ : Held → ℕ → ℕ → Type 0
+Differ held one other = length (held one) ≢ length (held other)
+
+-- keys and values; ids, latitudes, longitudes and groups; roles, ids and types of members, of which 2 is the greatest
+abbrev pub IsUneven : ObjectKind → Held → Type 0
+IsUneven kinds.Node held = Differ held 2 3
+IsUneven kinds.Dense held =
+    Differ held 1 8 ⊎ (Differ held 1 9 ⊎ ((groups : List (List (ℕ × ℕ))) → AreGroups (held 10) groups → length groups ≢ length (held 1)))
+IsUneven kinds.Way held = Differ held 2 3
+IsUneven kinds.Relation held = Differ held 2 3 ⊎ (Differ held 8 9 ⊎ (Differ held 8 10 ⊎ Some_of (λ (type : ℕ). 2 < type) (held 10)))
+
+-- ---- sums
+
+-- one of the sums is no signed number of 64 bits
+abbrev pub HasBadSum : List ℕ → Type 0
+HasBadSum differences = (i : ℕ) × (i < length differences) × (FitsSigned w64 (sum_at i differences) → ⊥)
+
+abbrev pub IsBadNumber : ObjectKind → Held → Type 0
+IsBadNumber kinds.Node held = ⊥
+IsBadNumber kinds.Dense held = HasBadSum (held 1) ⊎ (HasBadSum (held 8) ⊎ HasBadSum (held 9))
+IsBadNumber kinds.Way held = HasBadSum (held 8)
+IsBadNumber kinds.Relation held = HasBadSum (held 9)
+
+-- ---- texts
+
+-- what an object names by an index: a key; the value of a key; a role
+pub data Name : Type 0 where
+  Key : ℕ → Name
+  Value : ℕ → ℕ → Name
+  Role : ℕ → Name
+
+abbrev pub index_of : Name → ℕ
+index_of (Key index) = index
+index_of (Value key index) = index
+index_of (Role index) = index
+
+-- the text isn't in the table, or it is and isn't UTF-8 where it has to be
+abbrev pub IsBadText : (List ℕ → Type 0) → List (List ℕ) → ℕ → Type 0
+IsBadText IsNeededIn table index =
+    (slice_get table index ≡ None) ⊎ ((text : List ℕ) × IsText table index text × IsNeededIn text × (IsUtf8 text → ⊥))
+
+-- a kept key and its value have to be UTF-8, and so has a role
+abbrev pub IsBadName : List (List ℕ) → Name → Type 0
+IsBadName table (Key index) = IsBadText IsKept table index
+IsBadName table (Value key index) = IsBadText (λ (text : List ℕ). (kept : List ℕ) × IsText table key kept × IsKept kept) table index
+IsBadName table (Role index) = IsBadText (λ (text : List ℕ). Unit {0}) table index
+
+-- the names of tags, tag by tag, each key before its value; and those of roles
+abbrev pub tag_names : List (ℕ × ℕ) → List Name
+tag_names pairs = flat_map (λ (pair : ℕ × ℕ). Key pair.0 ∷ Value pair.0 pair.1 ∷ []) pairs
+
+abbrev pub role_names : List ℕ → List Name
+role_names roles = map (λ (index : ℕ). Role index) roles
+
+-- all pairs of groups
+abbrev pub pairs_in : List (List (ℕ × ℕ)) → List (ℕ × ℕ)
+pairs_in groups = flat_map (λ (group : List (ℕ × ℕ)). group) groups
+
+-- what an object names, in order: the roles of a relation stand behind its tags
+abbrev pub AreNames : ObjectKind → Held → List Name → Type 0
+AreNames kinds.Node held names = (pairs : List (ℕ × ℕ)) × ArePairs (held 2) (held 3) pairs × (names ≡ tag_names pairs)
+AreNames kinds.Dense held names =
+    (groups : List (List (ℕ × ℕ))) × AreGroups (held 10) groups × (length groups ≡ length (held 1)) × (names ≡ tag_names (pairs_in groups))
+AreNames kinds.Way held names = (pairs : List (ℕ × ℕ)) × ArePairs (held 2) (held 3) pairs × (names ≡ tag_names pairs)
+AreNames kinds.Relation held names =
+    (pairs : List (ℕ × ℕ)) × ArePairs (held 2) (held 3) pairs × (names ≡ tag_names pairs ++ role_names (held 8))
+
+-- the name with this place has this index, and its text is a bad one
+pub record HasBadName (table : List (List ℕ)) (kind : ObjectKind) (held : Held) (place index : ℕ) : Type 0 where
+  pub names : List Name
+  pub are_names : AreNames kind held names
+  pub name : Name
+  pub stands : slice_get names place ≡ Some name
+  pub index_is : index ≡ index_of name
+  pub bad : IsBadName table name
+
+-- ---- places
+
+-- there is no such place on the earth
+abbrev pub IsOffEarth : Scale → ℤ → ℤ → Type 0
+IsOffEarth scale lat lon = (units_lat units_lon : ℤ) × IsPlaceAt (lat_nano scale lat) (lon_nano scale lon) units_lat units_lon × (IsOnEarth units_lat units_lon → ⊥)
+
+-- the node of a node's fields
+pub record IsOneOff (scale : Scale) (held : Held) (place : ℕ) (id : ℤ) : Type 0 where
+  pub first : place ≡ 0
+  pub number : ℕ
+  pub lat : ℕ
+  pub lon : ℕ
+  pub has_id : IsLastOf (held 1) number
+  pub has_lat : IsLastOf (held 8) lat
+  pub has_lon : IsLastOf (held 9) lon
+  pub id_is : id ≡ unzigzag_of number
+  pub off : IsOffEarth scale (unzigzag_of lat) (unzigzag_of lon)
+
+-- the node with this place in a dense message
+pub record IsRowOff (scale : Scale) (held : Held) (place : ℕ) (id : ℤ) : Type 0 where
+  pub within : place < length (held 1)
+  pub id_is : id ≡ sum_at place (held 1)
+  pub off : IsOffEarth scale (sum_at place (held 8)) (sum_at place (held 9))
+
+abbrev pub IsMisplaced : ObjectKind → Scale → Held → ℕ → ℤ → Type 0
+IsMisplaced kinds.Node scale held place id = IsOneOff scale held place id
+IsMisplaced kinds.Dense scale held place id = IsRowOff scale held place id
+IsMisplaced kinds.Way scale held place id = ⊥
+IsMisplaced kinds.Relation scale held place id = ⊥
+
+-- ---- the first of them
+
+-- the cause stands in the object with these numbers
+abbrev pub IsCauseIn : List (List ℕ) → Scale → ObjectKind → Held → ObjectCause → Type 0
+IsCauseIn table scale kind held (Lacks number) = IsNeeded kind number × (held number ≡ [])
+IsCauseIn table scale kind held IsOdd = IsUneven kind held
+IsCauseIn table scale kind held IsPast = IsBadNumber kind held
+IsCauseIn table scale kind held (NoText place index) = HasBadName table kind held place index
+IsCauseIn table scale kind held (NoPlace place id) = IsMisplaced kind scale held place id
+
+-- the fault is that of a cause that stands there, and no other that stands there comes before it
+pub record IsFirstCause (table : List (List ℕ)) (scale : Scale) (kind : ObjectKind) (held : Held) (at : ℕ) (fault : ObjectFault) : Type 0 where
+  pub cause : ObjectCause
+  pub stands : IsCauseIn table scale kind held cause
+  pub fault_is : fault ≡ fault_of at cause
+  pub first : (other : ObjectCause) → IsCauseIn table scale kind held other → IsUpTo (rank_of cause) (rank_of other)
+
+-- the first fault of an object with its numbers
+pub record HasFirstFault (table : List (List ℕ)) (scale : Scale) (object : Object) (fault : ObjectFault) : Type 0 where
+  pub numbers : List (ℕ × ℕ)
+  pub spells : IsObject object.kind object.at object.bytes numbers
+  pub first : IsFirstCause table scale object.kind (held_by numbers) object.at fault
+
+-- no cause stands in the object
+pub record HasNoFault (table : List (List ℕ)) (scale : Scale) (object : Object) : Type 0 where
+  pub numbers : List (ℕ × ℕ)
+  pub spells : IsObject object.kind object.at object.bytes numbers
+  pub none : (cause : ObjectCause) → IsCauseIn table scale object.kind (held_by numbers) cause → ⊥
+
+-- the first fault of objects: none stands in the objects before that one
+pub record IsFirstAmong (table : List (List ℕ)) (scale : Scale) (objects : List Object) (fault : ObjectFault) : Type 0 where
+  pub before : List Object
+  pub object : Object
+  pub after : List Object
+  pub parts : objects ≡ before ++ object ∷ after
+  pub good : AllByRecursion (HasNoFault table scale) before
+  pub bad : HasFirstFault table scale object fault
+
+-- the first fault of a block: it has no string table, field 1; or it is that of its objects
+abbrev pub IsFirstOfBlock : ℕ → Block → ObjectFault → Type 0
+IsFirstOfBlock at block fault =
+    ((block.texts ≡ None) × (fault ≡ faults.MissingField at 1))
+    ⊎ ((table : List (List ℕ)) × (block.texts ≡ Some table) × IsFirstAmong table (units_in block) block.objects fault)
