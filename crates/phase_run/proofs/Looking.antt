@@ -6,7 +6,7 @@ use Rattle.std.proofs.Math.ListN.{get_elem?}
 use mathlib.Core.Option.{some}
 use Rattle.tile_machine.specs.At.{At}
 use Rattle.tile_machine.specs.declared.phase.Phase.{Ghosts}
-use Rattle.tile_machine.proofs.Places.{at-map}
+use Rattle.tile_machine.specs.Bridges.{at-map}
 use Rattle.tile_table.specs.declared.view.View.{View}
 use Rattle.tile_table.specs.declared.view.Hand.TheVariants.{Empty}
 use Rattle.tile_table.specs.declared.seat.Seat.{Seat}

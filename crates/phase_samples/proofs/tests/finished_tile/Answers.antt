@@ -1,7 +1,7 @@
 use Rattle.std.proofs.Common.{◌≡◌, List, map, Result, Ok, Err, IfOk, refl, sym, ◌∙◌, subst}
 use Rattle.tile_machine.specs.At.{At}
-use Rattle.tile_machine.proofs.Places.{at_read}
-use Rattle.tile_machine.proofs.tests.finished_tile.Goals as goal
+use Rattle.tile_machine.specs.Bridges.{at_read}
+use Rattle.phase_samples.proofs.tests.finished_tile.Goals as goal
 
 -- what an answer says of each world, said of one
 at_world : {T E : Type 0} (r : Result T E) (F S A : List T → Type 0) (P : List T → T → Type 0) (world : List T)
@@ -9,8 +9,8 @@ at_world : {T E : Type 0} (r : Result T E) (F S A : List T → Type 0) (P : List
 at_world (Ok t) F S A P world h f s a = h world f s a
 at_world (Err e) F S A P world h f s a = tt
 
-pub rewrite-requires : goal.rewrite-requires
-rewrite-requires g c = (
+pub rewrite-requires-clause-world : goal.rewrite-requires-clause-world
+rewrite-requires-clause-world g c = (
   c.args.tiles.now,
   c.requires.fits,
   refl,

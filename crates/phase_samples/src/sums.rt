@@ -1,11 +1,11 @@
-//! A small phase: the total of each tile is the sum of all values.
+//! A phase that reads every tile: the total of each is the sum of all values.
 
-ghost use Rattle.std.specs.Prelude.{◌<◌, ◌^◌, length, sum, refl};
+ghost use Rattle.std.specs.Prelude.{◌≡◌, ◌<◌, ◌^◌, length, map, sum, refl, IfOk};
 ghost use Rattle.tile_machine.specs.FromParts.{finished_by, finished-many, finished-parts, finished-agree};
 
-use crate::parts::{PartFault, Parts};
-use crate::phase::Phase;
 use std::alloc::{AllocError, Global};
+use tile_machine::parts::{PartFault, Parts};
+use tile_machine::phase::Phase;
 
 /// A value that all may read, and a field that the phase writes.
 #[derive(Clone, Copy, Debug, PartialEq, Eq)]
@@ -14,6 +14,7 @@ pub struct Summand {
     pub total: u64,
 }
 
+/// The total of each tile is the sum of the values of all.
 pub struct Sums;
 
 impl Phase for Sums {
@@ -58,4 +59,18 @@ impl Phase for Sums {
             total,
         })
     }
+}
+
+/// These values, none of which has a total yet.
+pub fn summands(alloc: Global, values: &[u32]) -> Result<Vec<Summand>, AllocError>
+    ensures many { IfOk result (λ tiles. length tiles.items ≡ length values.now) }
+    ensures values { IfOk result (λ tiles. tiles.items ≡ map (λ value. record { value = value; total = 0 }) values.now) }
+{
+    values
+        .iter()
+        .map(|value| Summand {
+            value: *value,
+            total: 0,
+        })
+        .collect(alloc)
 }

@@ -1,5 +1,5 @@
 use Rattle.std.proofs.Common.{◌≡◌, ℕ, ◌*◌, ◌≤◌, List, take, sum}
-use Rattle.tile_machine.proofs.tests.sums.SumsPhase.rewrite.Given as goal
+use Rattle.phase_samples.proofs.sums.SumsPhase.rewrite.Given as goal
 
 abbrev pub invariant-loop-j : goal.invariant-loop-j
 invariant-loop-j g l =

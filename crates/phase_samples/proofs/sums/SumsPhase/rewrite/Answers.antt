@@ -1,16 +1,16 @@
 use Rattle.std.proofs.Common.{◌≡◌, ℕ, ◌+◌, List, map, sum, sym, ap, ◌∙◌, subst, arith, rules}
 use Rattle.tile_machine.specs.At.{At}
 use Rattle.tile_machine.specs.FromParts.{finished_by, finished-at}
-use Rattle.phase_run.specs.declared.tests.sums.Summand.{Summand}
+use Rattle.phase_samples.specs.declared.sums.Summand.{Summand}
 use Rattle.std.proofs.lemmas.List.{take_all}
-use Rattle.tile_machine.proofs.Places.{sum_more}
-use Rattle.phase_run.proofs.tests.sums.SumsPhase.rewrite.Goals as goal
+use Rattle.tile_machine.specs.Bridges.{sum_more}
+use Rattle.phase_samples.proofs.sums.SumsPhase.rewrite.Goals as goal
 
 pub part-requires : goal.part-requires
 part-requires g c =
-    let ps : List ℕ = map (λ t. t.value) c.requires.0 in
-    let later = g.met.S.Parts.stays_shown c.args.parts.now c.loop-j.parts ps c.loop-j.invariant.stays c.requires.2 in
-    omega (arith, g.met.S.Parts.counts c.args.parts.now ps c.requires.2, g.met.S.Parts.counts c.loop-j.parts ps later, c.count-j-end.ensures, c.loop-j-test.true)
+    let ps : List ℕ = map (λ t. t.value) c.requires.world.0 in
+    let later = g.met.S.Parts.stays_shown c.args.parts.now c.loop-j.parts ps c.loop-j.invariant.stays c.requires.world.2 in
+    omega (arith, g.met.S.Parts.counts c.args.parts.now ps c.requires.world.2, g.met.S.Parts.counts c.loop-j.parts ps later, c.count-j-end.ensures, c.loop-j-test.true)
 
 pub loop-j-preserved : goal.loop-j-preserved
 loop-j-preserved g c =

@@ -1,4 +1,5 @@
--- what stands at a place of a list
+-- Three ways to say that x stands at place j of a list, and the way from one to another, for the proofs of a phase: `At xs j x`,
+-- which the contracts of parts and phases say; `get_or xs j d`, which an index in code gives; and a place of `map f xs`
 use Rattle.std.proofs.lemmas.Grind.{common_steps}
 use Rattle.std.proofs.Common.{◌≡◌, ℕ, zero, suc, ◌+◌, ◌<◌, sum, take, List, [], ◌∷◌, length, map, get_or, refl, sym, ap, subst, arith}
 use mathlib.Core.Option.{some}
@@ -29,6 +30,12 @@ pub read_at : {A : Type 0} (xs : List A) (j : ℕ) (x : A) → At xs j x → (j 
 read_at [] j x h = absurd (cc h)
 read_at (y ∷ xs) zero x h = (omega arith, some_same y x h)
 read_at (y ∷ xs) (suc j) x h = let rest = read_at xs j x h in (omega (arith, rest.0), rest.1)
+
+-- what stands at a place is read there, whatever stands for a place that isn't there
+pub at_get : {A : Type 0} (xs : List A) (j : ℕ) (x d : A) → At xs j x → get_or xs j d ≡ x
+at_get [] j x d h = absurd (cc h)
+at_get (y ∷ xs) zero x d h = some_same y x h
+at_get (y ∷ xs) (suc j) x d h = at_get xs j x d h
 
 -- the sum of a list's beginning, with the element that stands next
 pub sum_more : (xs : List ℕ) (j x : ℕ) → At xs j x → sum (take (j + 1) xs) ≡ sum (take j xs) + x
