@@ -16,8 +16,8 @@ use Rattle.tile_table.specs.Steps.{Sat, claim_told, turn_told, Took, LostTo}
 use Rattle.tile_table.specs.Seats.{turn_place, turn_tile, turn_marked}
 use Rattle.tile_table.specs.Calls.{Claimed, TurnHad, TurnMissed, PartSeen}
 use Rattle.tile_machine.specs.Bridges.{at-map}
-use Rattle.tile_table.proofs.Bits.{same-eq}
-use Rattle.tile_table.proofs.Sums.{times-append}
+use Rattle.tile_table.proofs.Bits.{same-eq, both-eq}
+use Rattle.tile_table.proofs.Sums.{times-append, pairs-append}
 
 is-only : (T : Type 0) (j : ℕ) (m : Bool) → slots_fit {T = T} (Holds j m) ((j, None) ∷ []) ≡ true
 is-only T j m = grind (arith, nat_tests)
@@ -76,6 +76,13 @@ module _ {T : Type 0} where
   pub claim-taken : (i : ℕ) (m r : Sat T) (n : ℕ) → n ≢ 0 → claim_told i m n r → Claimed m.0 i (Taken (n - 1)) r.0
   claim-taken i m r zero ne t = absurd (ne refl)
   claim-taken i m r (suc by) ne t = ap (λ y. y.0) t ∙ ap (λ n. with_seen m.0 i n) (omega arith)
+
+  -- the claim that was just made
+  pub has-claim : (i : ℕ) (m r : Sat T) (n : ℕ) → n ≡ 0 → claim_told i m n r → 0 < pairs r.0.first i r.0.claims
+  has-claim i m r zero e t =
+      subst (λ y. 0 < pairs y.0.first i y.0.claims) (sym t.0)
+      (omega (arith, pairs-append m.0.first i m.0.claims ((m.0.first, i) ∷ []), both-eq m.0.first i m.0.first i refl refl))
+  has-claim i m r (suc by) e t = absurd (omega arith)
 
   had-stays : (j : ℕ) (m r : Sat T) (b : Bool) → Took m j b r → Stays m r
   had-stays j m r b t = stays-by m r (with_take m.0 j b, (j, Some t.tile) ∷ m.1) t.after refl refl refl

@@ -92,7 +92,7 @@ module _ {T : Type 0} where
     pub mark :
         (k : ℕ) (v : View T) (j : ℕ) (m : Bool) (inside : ℕ → Bool) → Knows s k v → v.first < v.end → v.hand ≡ Holds j m → 0 < claiming v.first j v → marking j v ≡ 0
         → next (shown workers (inside_by {T = T} inside ((j, None) ∷ [])) s) (Mark v.first j)
-            ≡ Ok (shown workers (inside_by {T = T} inside ((j, None) ∷ [])) (stepped s (3 * j + 2) 1 k ((j, None) ∷ []) (with_mark v j) keeps))
+        ≡ Ok (shown workers (inside_by {T = T} inside ((j, None) ∷ [])) (stepped s (3 * j + 2) 1 k ((j, None) ∷ []) (with_mark v j) keeps))
     pub put_back :
         (k : ℕ) (v : View T) (j : ℕ) (m : Bool) (t : T) (inside : ℕ → Bool) → Knows s k v → v.first < v.end → v.hand ≡ Holds j m
         → next (shown workers (inside_by {T = T} inside ((j, None) ∷ [])) s) (PutBack v.first j) ≡ Ok (shown workers (inside_by inside ((j, Some t) ∷ [])) s)

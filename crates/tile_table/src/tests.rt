@@ -1,6 +1,8 @@
 //! What no clause says: each call at a small phase, from one thread and from two.
 
-ghost use Rattle.std.specs.Prelude.{◌≡◌, ◌<◌, length, IfOk};
+ghost use Rattle.std.specs.Prelude.{◌≡◌, ◌<◌, length};
+ghost use Rattle.tile_machine.specs.At.{At};
+ghost use Rattle.tile_table.specs.Counts.{times, pairs};
 ghost use Rattle.tile_table.specs.declared.view.Hand.{Hand};
 ghost use Rattle.tile_table.specs.Seats.{view, seat_name, IsAt};
 
@@ -8,10 +10,9 @@ use crate::answer::{Claim, Unseen};
 use crate::events::steps_are_events;
 use crate::seat::Seat;
 use crate::table::TileTable;
-use std::alloc::{AllocError, Global};
+use phase_samples::{Summand, Sums, summands};
 use std::test::Fail;
 use std::thread::join;
-use phase_samples::{Summand, Sums, summands};
 use tile_machine::phase::Phase;
 
 /// Worker 0 claims a tile and holds its turn. Worker 1 is told so, and sees the tile's part after the turn was given back.
@@ -123,4 +124,42 @@ fn put<P: Phase>(table: &TileTable<P>, mut seat: Seat<P>, i: u64, tile: P::Tile)
         }
         Err(_) => seat,
     }
+}
+
+/// Two workers in threads of their own finish one tile each, and are put together again.
+#[test]
+fn two_threads(rt: HostRuntime) -> Result<(), Fail> {
+    let tiles = [5, 6]
+        .map(|value| Summand { value, total: 0 })
+        .to_vec(rt.alloc())?;
+    let (table, mut seat) = TileTable::new(rt.alloc(), &Sums, tiles, 2)?;
+    let upper = table.split(&mut seat, 1);
+    let shared = &table;
+    let five = Summand {
+        value: 5,
+        total: 11,
+    };
+    let six = Summand {
+        value: 6,
+        total: 11,
+    };
+    let (mut seat, upper) = join(
+        &rt,
+        move || -> Seat<Sums>
+            requires { IsAt shared.now seat × ((view seat).hand ≡ Hand.Empty) × (0 < length (view seat).world) × At (view seat).goal 0 five }
+            ensures { (seat_name result ≡ seat_name seat) × ((view result).hand ≡ Hand.Empty) × ((view result).world ≡ (view seat).world) × ((view result).first ≡ (view seat).first) × ((view result).end ≡ (view seat).end) × ((view result).all ≡ (view seat).all) }
+        { finished(shared, seat, 0, five) },
+        move || -> Seat<Sums>
+            requires { IsAt shared.now upper × ((view upper).hand ≡ Hand.Empty) × (1 < length (view upper).world) × At (view upper).goal 1 six }
+            ensures { (seat_name result ≡ seat_name upper) × ((view result).hand ≡ Hand.Empty) × ((view result).world ≡ (view upper).world) × ((view result).first ≡ (view upper).first) × ((view result).end ≡ (view upper).end) × ((view result).all ≡ (view upper).all) }
+        { finished(shared, upper, 1, six) },
+    );
+    table.join(&mut seat, upper);
+    let room = Vec::with_capacity(rt.alloc(), 2)?;
+    let closed = table.close(seat, room);
+    for (i, one) in closed.iter().enumerate() {
+        assert_eq!(rt; (one.tile.value, one.tile.total), (i as u32 + 5, 11));
+        assert!(rt; one.done);
+    }
+    Ok(())
 }

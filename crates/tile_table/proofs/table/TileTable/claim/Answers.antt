@@ -1,6 +1,6 @@
 use Rattle.std.proofs.Common.{◌≡◌, length, refl, ap, sym, ◌∙◌, arith}
 use Rattle.tile_table.proofs.Moves.{claims}
-use Rattle.tile_table.proofs.Told.{claim-stays, claim-fits, claim-mine, claim-taken}
+use Rattle.tile_table.proofs.Told.{claim-stays, claim-fits, claim-mine, claim-taken, has-claim}
 use Rattle.tile_table.proofs.table.TileTable.claim.Goals as goal
 
 pub compare_exchange-found-requires : goal.compare_exchange-found-requires
@@ -35,3 +35,7 @@ returns-then-found-eq0-clause-view g c =
 pub returns-else-found-eq0-clause-view : goal.returns-else-found-eq0-clause-view
 returns-else-found-eq0-clause-view g c =
     claim-taken c.args.i c.args.seat.now.seat.me c.compare_exchange-found.new.seat.me c.compare_exchange-found.result c.if-found-eq0.false (c.compare_exchange-found.ensures.2 c.args.i refl)
+
+pub returns-then-found-eq0-clause-mine : goal.returns-then-found-eq0-clause-mine
+returns-then-found-eq0-clause-mine g c mine =
+    has-claim c.args.i c.args.seat.now.seat.me c.compare_exchange-found.new.seat.me c.compare_exchange-found.result c.if-found-eq0.true (c.compare_exchange-found.ensures.2 c.args.i refl)
