@@ -6,14 +6,14 @@ use Rattle.std.proofs.Math.ListN.{get_elem?}
 use mathlib.Core.Option.{some}
 use Rattle.tile_machine.specs.At.{At}
 use Rattle.tile_machine.specs.declared.phase.Phase.{Ghosts}
-use Rattle.tile_machine.proofs.Places.{at-map}
+use Rattle.tile_machine.specs.Bridges.{at-map}
 use Rattle.tile_table.specs.declared.view.View.{View}
 use Rattle.tile_table.specs.declared.view.Hand.TheVariants.{Empty}
 use Rattle.tile_table.specs.declared.seat.Seat.{Seat}
 use Rattle.tile_table.specs.declared.seat.Turn.{Turn}
 use Rattle.tile_table.specs.Counts.{times, pairs}
 use Rattle.tile_table.specs.Views.{tiles_by, with_no_hand, IsAnother}
-use Rattle.tile_table.specs.Calls.{TurnHad, TurnMissed}
+use Rattle.tile_table.specs.Calls.{TurnHad, TurnMissed, TurnHadOnce, PartSeen}
 use Rattle.tile_table.specs.Seats.{view, seat_name, turn_place, turn_tile, turn_marked}
 use Rattle.phase_run.specs.Tries.{GainedTries}
 use Rattle.phase_run.specs.Looks.{IsAlone, Unchanged, Loses, TookOne, TurnGot, Looked, Shown}
@@ -101,12 +101,6 @@ module _ {T : Type 0} where
         gained = one-more-try j other holder count v.lost w.lost u.lost so_far.gained (ap (λ x. x.lost) e);
       }
 
-  -- a part that was read of the world's tile, or of the finished one
-  part-by : {Q : Type 0} (readable : T → Q) (marked : Bool) (world goal : List T) (j : ℕ) (t : T) (ps : List Q) → At (tiles_by marked world goal) j t
-      → ps ≡ map readable world → ps ≡ map readable goal → At ps j (readable t)
-  part-by readable true world goal j t ps at w e = subst (λ qs. At qs j (readable t)) (sym e) (at-map readable goal j t at)
-  part-by readable false world goal j t ps at w e = subst (λ qs. At qs j (readable t)) (sym w) (at-map readable world j t at)
-
   pub lost-still : (u v w : View T) → Loses u v → w.lost ≡ v.lost → Loses u w
   lost-still u v w h e = record { more = omega (arith, h.more, ap length e); alone = λ alone. e ∙ h.alone alone }
 
@@ -116,6 +110,54 @@ module _ {T : Type 0} where
         more = not-shorter j holder count v.lost w.lost h.gained;
         alone = λ alone. gained-nothing j holder count v.lost w.lost (h.alone alone) h.gained;
       }
+
+  -- what a look leaves that was had after these tries
+  pub record LookHad (before : View T) (j : ℕ) (after : View T) : Type 0 where
+    pub hand : after.hand ≡ Empty
+    pub unchanged : Unchanged before after
+    pub takes : TookOne j before after
+    pub loses : Loses before after
+    pub few : length after.lost < length before.lost + 1000
+
+  pub looks : (v : View T) (j other count : ℕ) (w u : View T) → count < 1000 → Trying v j other count w → TurnHadOnce w j u → LookHad v j u
+  looks v j other count w u few so_far had =
+      let e = had.view in
+      record {
+        hand = ap (λ x. x.hand) e;
+        unchanged =
+            unchanged-on v w u so_far.unchanged
+            (record {
+              world = ap (λ x. x.world) e;
+              goal = ap (λ x. x.goal) e;
+              first = ap (λ x. x.first) e;
+              end = ap (λ x. x.end) e;
+              all = ap (λ x. x.all) e;
+              claims = ap (λ x. x.claims) e;
+              marks = ap (λ x. x.marks) e;
+              seen = ap (λ x. x.seen) e;
+            });
+        takes = ap (λ x. x.takes) e ∙ ap (λ n. w.takes ++ (n, j) ∷ []) so_far.unchanged.first ∙ ap (λ ts. ts ++ (v.first, j) ∷ []) so_far.takes;
+        loses = lost-still v w u (loses-tries v j other count w so_far) (ap (λ x. x.lost) e);
+        few = omega (arith, few, ap (λ x. length x.lost) e, ap length so_far.gained.gained, length-append v.lost so_far.gained.tries, so_far.gained.many);
+      }
+
+  part-by : {Q : Type 0} (readable : T → Q) (marked : Bool) (world goal : List T) (j : ℕ) (p : Q) (ps : List Q) → At (map readable (tiles_by marked world goal)) j p
+      → ps ≡ map readable world → ps ≡ map readable goal → At ps j p
+  part-by readable true world goal j p ps at w e = subst (λ qs. At qs j p) (sym e) at
+  part-by readable false world goal j p ps at w e = subst (λ qs. At qs j p) (sym w) at
+
+  -- a part that was seen after these tries is that of the world
+  pub reads-part : {Q : Type 0} (readable : T → Q) (v : View T) (j holder count : ℕ) (w : View T) (p : Q) → Trying v j holder count w → PartSeen readable w j p
+      → (ps : List Q) → Shown readable v ps → At ps j p
+  reads-part readable v j holder count w p so_far seen ps shown =
+      part-by readable seen.marked v.world v.goal j p ps
+      (subst (λ ts. At (map readable (tiles_by seen.marked ts v.goal)) j p) so_far.unchanged.world
+      (subst (λ ts. At (map readable (tiles_by seen.marked w.world ts)) j p) so_far.unchanged.goal seen.stands))
+      shown.0 shown.1
+
+  pub claimed-kept : (v : View T) (j holder count : ℕ) (w : View T) → Trying v j holder count w → 0 < pairs v.first j v.claims → 0 < pairs w.first j w.claims
+  claimed-kept v j holder count w so_far claimed =
+      subst (λ n. 0 < pairs n j w.claims) (sym so_far.unchanged.first) (subst (λ cs. 0 < pairs v.first j cs) (sym so_far.unchanged.claims) claimed)
 
 module _ {X T Q : Type 0} where
   -- a turn that was had after these tries
@@ -154,13 +196,6 @@ module _ {X T Q : Type 0} where
       subst (λ ts. At (tiles_by m ts v.goal) j (turn_tile turn)) got.unchanged.world
       (subst (λ ts. At (tiles_by m w.world ts) j (turn_tile turn)) got.unchanged.goal
       (subst (λ n. At (tiles_by m w.world w.goal) n (turn_tile turn)) got.place got.turn.stands))
-
-  -- the part of a tile whose turn was had
-  pub reads-part : {R : Type 0} (readable : T → R) (v w : View T) (j : ℕ) (turn : Turn X T Q) (p : R) → TurnGot v j turn w → p ≡ readable (turn_tile turn)
-      → (ps : List R) → Shown readable v ps → At ps j p
-  reads-part readable v w j turn p got is ps shown =
-      subst (λ q. At ps j q) (sym is)
-      (part-by readable (turn_marked turn) v.world v.goal j (turn_tile turn) ps (stands-there v w j turn got) shown.0 shown.1)
 
   -- a tile that the seat has claimed and not marked is the world's
   pub reads-world : (v w : View T) (i : ℕ) (turn : Turn X T Q) (t : T) → TurnGot v i turn w → 0 < pairs v.first i v.claims → times i v.marks ≡ 0

@@ -1,7 +1,9 @@
 -- what a worker's steps leave of its seat
-use Rattle.std.proofs.Common.{◌≡◌, Bool, true, false, ◌&&◌, ◌==◌, ℕ, ◌+◌, ◌<◌, ◌≤◌, List, [], ◌∷◌, ◌++◌, length, length-append, refl, ap, sym, ◌∙◌, subst, ◌⊎◌, inl, inr, ⊎_elim, arith}
+use Rattle.std.proofs.Common.{◌≡◌, ◌≢◌, Bool, true, false, ◌&&◌, ◌==◌, ℕ, ◌+◌, ◌<◌, ◌≤◌, List, [], ◌∷◌, ◌++◌, length, length-append, refl, ap, sym, ◌∙◌, subst, ◌⊎◌, inl, inr, ⊎_elim, ne_eqb, arith}
 use Rattle.std.proofs.lemmas.Bool.{cases_lt}
 use Rattle.std.proofs.lemmas.List.{append-nil}
+use mathlib.Core.Logic.{dite}
+use native.Mathlib.Decide.{ℕ_discrete}
 use Rattle.tile_machine.specs.At.{At}
 use Rattle.tile_machine.specs.declared.phase.Phase.{Ghosts}
 use Rattle.tile_table.specs.declared.view.View.{View}
@@ -16,7 +18,7 @@ use Rattle.tile_table.specs.Seats.{view, seat_name, IsAt}
 use Rattle.phase_run.specs.declared.worker.Visit.{Visit}
 use Rattle.phase_run.specs.declared.worker.Visit.TheVariants.{Finished, PutOff, Passed}
 use Rattle.phase_run.specs.Looks.{IsAlone, Unchanged, Loses, Looked}
-use Rattle.phase_run.specs.Workers.{Ready, Worked, Visited, Ended, ClaimedNow, Visits, Accounts, GoesOver, WentOver, FinishesClaims}
+use Rattle.phase_run.specs.Workers.{Ready, Worked, Visited, Ended, ClaimedNow, Visits, Accounts, Waiting, Finishes, GoesOver, WentOver, FinishesClaims}
 use Rattle.phase_run.specs.Rest.{TilesOf}
 
 pairs-more : (a b : ℕ) (xs ys : List (ℕ × ℕ)) → pairs a b xs ≤ pairs a b (xs ++ ys)
@@ -37,6 +39,13 @@ times-more a (x ∷ xs) ys = omega (arith, times-more a xs ys)
 times-last : (a : ℕ) (xs : List ℕ) → 0 < times a (xs ++ a ∷ [])
 times-last a [] = grind arith
 times-last a (x ∷ xs) = omega (arith, times-last a xs)
+
+times-append : (a : ℕ) (xs ys : List ℕ) → times a (xs ++ ys) ≡ times a xs + times a ys
+times-append a [] ys = omega arith
+times-append a (x ∷ xs) ys = omega (arith, times-append a xs ys)
+
+same-ne : (a b : ℕ) → a ≢ b → same a b ≡ 0
+same-ne a b ne = ap bit (ne_eqb a b ne)
 
 -- a pair that stands in a list with one more at its end stands in the list, or is that one
 pairs-back : (a b c d : ℕ) (xs : List (ℕ × ℕ)) → 0 < pairs a b (xs ++ (c, d) ∷ []) → (0 < pairs a b xs) ⊎ (b ≡ d)
@@ -63,16 +72,11 @@ module _ {T : Type 0} where
   visited-still v w i claims seen c s h =
       ⊎_elim (λ t. inl (t.0, claimed-still v w t.0 i claims c t.1)) (λ t. inr (t.0, seen-still v w i t.0 seen s t.1)) h
 
-  -- the claim that was just made
-  pub claimed-now : (v w : View T) (i : ℕ) → w ≡ with_claim v i → 0 < pairs w.first i w.claims
-  claimed-now v w i e =
-      subst (λ x. 0 < pairs x.first i x.claims) (sym e) (pairs-last v.first i v.claims)
-
   claim-visited : (v w : View T) (i k : ℕ) → ClaimedNow v i w → (i ≡ k) ⊎ Visited v k → Visited w k
   claim-visited v w i k now h =
       ⊎_elim
-      (λ e. inl (v.first, subst (λ xs. 0 < pairs v.first k xs) (sym now.0) (subst (λ n. 0 < pairs v.first k (v.claims ++ (v.first, n) ∷ [])) (sym e) (pairs-last v.first k v.claims))))
-      (λ before. visited-still v w k ((v.first, i) ∷ []) [] now.0 (now.1 ∙ sym (append-nil v.seen)) before)
+      (λ e. inl (v.first, subst (λ xs. 0 < pairs v.first k xs) (sym now.claims) (subst (λ n. 0 < pairs v.first k (v.claims ++ (v.first, n) ∷ [])) (sym e) (pairs-last v.first k v.claims))))
+      (λ before. visited-still v w k ((v.first, i) ∷ []) [] now.claims (now.seen ∙ sym (append-nil v.seen)) before)
       h
 
   -- a visit adds its place to those that were visited
@@ -89,9 +93,9 @@ module _ {T : Type 0} where
   -- a visit's claim is followed by a mark or by a lost try
   visit-accounts : (visit : Visit) (v w : View T) (i : ℕ) → Visits visit v i w → Loses v w → Accounts v w
   visit-accounts Finished v w i here loses =
-      omega (arith, ap length here.0.0, length-append v.claims ((v.first, i) ∷ []), ap length here.1, length-append v.marks (i ∷ []), loses.more)
+      omega (arith, ap length here.0.claims, length-append v.claims ((v.first, i) ∷ []), ap length here.1, length-append v.marks (i ∷ []), loses.more)
   visit-accounts PutOff v w i here loses =
-      omega (arith, ap length here.0.0, length-append v.claims ((v.first, i) ∷ []), ap length here.1.0, here.1.1)
+      omega (arith, ap length here.0.claims, length-append v.claims ((v.first, i) ∷ []), ap length here.1.0, here.1.1)
   visit-accounts Passed v w i here loses = omega (arith, ap length here.0, ap length here.1, loses.more)
 
   finished-here : (v w : View T) (i : ℕ) → w.claims ≡ v.claims ++ (v.first, i) ∷ [] → w.marks ≡ v.marks ++ i ∷ [] → FinishesClaims v → FinishesClaims w
@@ -104,10 +108,124 @@ module _ {T : Type 0} where
 
   -- where no try is lost, each claim is followed by a mark
   finishes-more : (visit : Visit) (v w : View T) (i : ℕ) → Visits visit v i w → w.lost ≡ v.lost → FinishesClaims v → FinishesClaims w
-  finishes-more Finished v w i here none before = finished-here v w i here.0.0 here.1 before
+  finishes-more Finished v w i here none before = finished-here v w i here.0.claims here.1 before
   finishes-more PutOff v w i here none before = absurd (omega (arith, ap length none, here.1.1))
   finishes-more Passed v w i here none before =
       λ by k h. subst (λ ms. 0 < times k ms) (sym here.1) (before by k (subst (λ cs. 0 < pairs by k cs) here.0 h))
+
+  -- where the claims and marks are the same, the same places wait
+  waits-same : (v w : View T) (places : List ℕ) → w.world ≡ v.world → w.first ≡ v.first → w.claims ≡ v.claims → w.marks ≡ v.marks → Waiting v places → Waiting w places
+  waits-same v w places world first claims marks waiting i some_times =
+      let h = waiting i some_times in (
+        omega (arith, h.0, ap length world),
+        subst (λ n. 0 < pairs n i w.claims) (sym first) (subst (λ cs. 0 < pairs v.first i cs) (sym claims) h.1),
+        omega (arith, h.2, ap (times i) marks),
+      )
+
+  -- none of them is the place that was just claimed
+  other-waits : (v : View T) (places : List ℕ) (i k : ℕ) → Waiting v places → ((by : ℕ) → pairs by i v.claims ≡ 0) → 0 < times k places → i ≢ k
+  other-waits v places i k waiting unclaimed some_times e =
+      omega (arith, (waiting k some_times).1, subst (λ n. pairs v.first n v.claims ≡ 0) e (unclaimed v.first))
+
+  -- the places wait still, after another was claimed and maybe finished
+  waits-claimed : (v w : View T) (places added : List ℕ) (i : ℕ) → w.world ≡ v.world → w.first ≡ v.first → ClaimedNow v i w → w.marks ≡ v.marks ++ added
+      → ((k : ℕ) → i ≢ k → times k added ≡ 0) → Waiting v places → Waiting w places
+  waits-claimed v w places added i world first now marks none waiting k some_times =
+      let h = waiting k some_times in
+      let ne = other-waits v places i k waiting now.unclaimed some_times in (
+        omega (arith, h.0, ap length world),
+        subst (λ n. 0 < pairs n k w.claims) (sym first) (claimed-still v w v.first k ((v.first, i) ∷ []) now.claims h.1),
+        omega (arith, h.2, ap (times k) marks, times-append k v.marks added, none k ne),
+      )
+
+  pub visit-waits : (visit : Visit) (v w : View T) (places : List ℕ) (i : ℕ) → w.world ≡ v.world → w.first ≡ v.first → Visits visit v i w → Waiting v places → Waiting w places
+  visit-waits Finished v w places i world first here waiting =
+      waits-claimed v w places (i ∷ []) i world first here.0 here.1 (λ k ne. omega (arith, same-ne i k ne)) waiting
+  visit-waits PutOff v w places i world first here waiting =
+      waits-claimed v w places [] i world first here.0 (here.1.0 ∙ sym (append-nil v.marks)) (λ k ne. refl) waiting
+  visit-waits Passed v w places i world first here waiting = waits-same v w places world first here.0 here.1 waiting
+
+  -- a place that was put off waits with them, if it was noted
+  put-off-waits : (v w : View T) (places : List ℕ) (i : ℕ) → i < length v.world → w.world ≡ v.world → w.first ≡ v.first → Visits PutOff v i w → Waiting v places
+      → Waiting w (places ++ i ∷ [])
+  put-off-waits v w places i inside world first here waiting k some_times =
+      dite (ℕ_discrete i k)
+      (λ q. (
+        omega (arith, inside, ap length world, q),
+        subst (λ n. 0 < pairs n k w.claims) (sym first)
+            (subst (λ cs. 0 < pairs v.first k cs) (sym here.0.claims) (subst (λ n. 0 < pairs v.first k (v.claims ++ (v.first, n) ∷ [])) (sym q) (pairs-last v.first k v.claims))),
+        subst (λ n. times n w.marks + times n (places ++ i ∷ []) ≡ 1) q
+            (omega (arith, ap (times i) here.1.0, here.0.unmarked, times-append i places (i ∷ []), eqb-same i, none-there)),
+      ))
+      (λ ne. let h = visit-waits PutOff v w places i world first here waiting k (omega (arith, some_times, times-append k places (i ∷ []), same-ne i k ne)) in
+      (h.0, h.1, omega (arith, h.2, times-append k places (i ∷ []), same-ne i k ne)))
+    where
+      none-there : times i places ≡ 0
+      none-there = dite (ℕ_discrete (times i places) 0) (λ e. e) (λ ne. absurd (other-waits v places i i waiting here.0.unclaimed (omega (arith, ne)) refl))
+
+  pub noted-waits : (visit : Visit) (v w : View T) (places more : List ℕ) (i : ℕ) → i < length v.world → w.world ≡ v.world → w.first ≡ v.first → Visits visit v i w → Waiting v places
+      → (more ≡ places) ⊎ ((visit ≡ PutOff) × (more ≡ places ++ i ∷ [])) → Waiting w more
+  noted-waits visit v w places more i inside world first here waiting noted =
+      ⊎_elim
+      (λ e. subst (λ ps. Waiting w ps) (sym e) (visit-waits visit v w places i world first here waiting))
+      (λ e. subst (λ ps. Waiting w ps) (sym e.1) (put-off-waits v w places i inside world first (subst (λ x. Visits x v i w) e.0 here) waiting))
+      noted
+
+  pub none-waits : (v : View T) (places : List ℕ) → places ≡ [] → Waiting v places
+  none-waits v places e i some_times = absurd (omega (arith, ap (times i) e, some_times))
+
+  -- what is known of the last one
+  pub last-waits : (v : View T) (places rest : List ℕ) (i : ℕ) → places ≡ rest ++ i ∷ [] → Waiting v places
+      → (i < length v.world) × (0 < pairs v.first i v.claims) × (times i v.marks ≡ 0) × (times i rest ≡ 0)
+  last-waits v places rest i e waiting =
+      let count : times i places ≡ times i rest + 1 = ap (times i) e ∙ times-append i rest (i ∷ []) ∙ omega (arith, eqb-same i) in
+      let h = waiting i (omega (arith, count)) in
+      (h.0, h.1, omega (arith, h.2, count), omega (arith, h.2, count))
+
+  -- the others wait still after it was tried
+  pub rest-waits : (is_done : Bool) (v w : View T) (places rest : List ℕ) (i : ℕ) → w.world ≡ v.world → w.first ≡ v.first → w.claims ≡ v.claims → places ≡ rest ++ i ∷ []
+      → Ended is_done v i w → Waiting v places → Waiting w rest
+  rest-waits is_done v w places rest i world first claims e ended waiting k some_times =
+      let last = last-waits v places rest i e waiting in
+      let ne : i ≢ k = λ q. omega (arith, some_times, subst (λ n. times n rest ≡ 0) q last.3) in
+      let h = waiting k (omega (arith, ap (times k) e, times-append k rest (i ∷ []), some_times)) in (
+        omega (arith, h.0, ap length world),
+        subst (λ n. 0 < pairs n k w.claims) (sym first) (subst (λ cs. 0 < pairs v.first k cs) (sym claims) h.1),
+        omega (arith, h.2, ap (times k) e, times-append k rest (i ∷ []), same-ne i k ne, ended-else is_done v w i k ne ended),
+      )
+    where
+      ended-else : (is_done : Bool) (v w : View T) (i k : ℕ) → i ≢ k → Ended is_done v i w → times k w.marks ≡ times k v.marks
+      ended-else true v w i k ne ended = omega (arith, ap (times k) ended, times-append k v.marks (i ∷ []), same-ne i k ne)
+      ended-else false v w i k ne ended = ap (times k) ended.0
+
+  pub finishes-nothing : (v : View T) → Finishes v v
+  finishes-nothing v = record { claims = refl; seen = refl; marks = λ i. omega arith; many = omega arith }
+
+  pub finishes-one : (is_done : Bool) (u v w : View T) (i : ℕ) → Finishes u v → w.claims ≡ v.claims → w.seen ≡ v.seen → Ended is_done v i w → Finishes u w
+  finishes-one true u v w i so_far claims seen ended =
+      record {
+        claims = claims ∙ so_far.claims;
+        seen = seen ∙ so_far.seen;
+        marks = λ k. omega (arith, so_far.marks k, ap (times k) ended, times-append k v.marks (i ∷ []));
+        many = omega (arith, so_far.many, ap length ended, length-append v.marks (i ∷ []));
+      }
+  finishes-one false u v w i so_far claims seen ended =
+      record {
+        claims = claims ∙ so_far.claims;
+        seen = seen ∙ so_far.seen;
+        marks = λ k. omega (arith, so_far.marks k, ap (times k) ended.0);
+        many = omega (arith, so_far.many, ap length ended.0);
+      }
+
+  pub went-again : (u v w : View T) → WentOver u v → Finishes v w → Loses v w → WentOver u w
+  went-again u v w h k loses =
+      record {
+        visited = λ i inside. visited-still v w i [] [] (k.claims ∙ sym (append-nil v.claims)) (k.seen ∙ sym (append-nil v.seen)) (h.visited i inside);
+        accounts = omega (arith, h.accounts, ap length k.claims, k.many, loses.more);
+      }
+
+  pub finishes-still : (v w : View T) → Finishes v w → FinishesClaims v → FinishesClaims w
+  finishes-still v w k h by i claimed = omega (arith, k.marks i, h by i (subst (λ cs. 0 < pairs by i cs) k.claims claimed))
 
   pub goes-nowhere : (from : ℕ) (v : View T) → GoesOver from from v v
   goes-nowhere from v =

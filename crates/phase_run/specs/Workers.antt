@@ -39,9 +39,12 @@ module _ {T : Type 0} where
   Ended true before i after = after.marks ≡ before.marks ++ i ∷ []
   Ended false before i after = (after.marks ≡ before.marks) × (length before.lost < length after.lost)
 
-  -- the seat has one claim more, that of the place
-  abbrev pub ClaimedNow : View T → ℕ → View T → Type 0
-  ClaimedNow before i after = (after.claims ≡ before.claims ++ (before.first, i) ∷ []) × (after.seen ≡ before.seen)
+  -- the seat has one claim more, that of a place that it neither claimed nor marked before
+  pub record ClaimedNow (before : View T) (i : ℕ) (after : View T) : Type 0 where
+    pub claims : after.claims ≡ before.claims ++ (before.first, i) ∷ []
+    pub seen : after.seen ≡ before.seen
+    pub unclaimed : (by : ℕ) → pairs by i before.claims ≡ 0
+    pub unmarked : times i before.marks ≡ 0
 
   -- what a worker did at a place
   abbrev pub Visits : Visit → View T → ℕ → View T → Type 0
@@ -58,6 +61,18 @@ module _ {T : Type 0} where
   -- each tile that was claimed is finished
   abbrev pub FinishesClaims : View T → Type 0
   FinishesClaims v = (by i : ℕ) → 0 < pairs by i v.claims → 0 < times i v.marks
+
+  -- places that the seat has claimed and not finished, each of them once
+  abbrev pub Waiting : View T → List ℕ → Type 0
+  Waiting v places =
+      (i : ℕ) → 0 < times i places → (i < length v.world) × (0 < pairs v.first i v.claims) × (times i v.marks + times i places ≡ 1)
+
+  -- the claims are the same, and those of others that were met. The marks may be more
+  pub record Finishes (before after : View T) : Type 0 where
+    pub claims : after.claims ≡ before.claims
+    pub seen : after.seen ≡ before.seen
+    pub marks : (i : ℕ) → times i before.marks ≤ times i after.marks
+    pub many : length before.marks ≤ length after.marks
 
   -- a worker that had memory enough went over these places
   pub record GoesOver (from to : ℕ) (before after : View T) : Type 0 where

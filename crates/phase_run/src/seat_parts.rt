@@ -9,15 +9,16 @@ ghost use Rattle.tile_table.specs.Seats.{view, IsAt};
 ghost use Rattle.phase_run.specs.Looks.{is_empty, Looked, TookOne, TriedInVain, tries_in_a_row, Shown};
 ghost use Rattle.phase_run.specs.Tries.{IfLateAt, HadOrLate};
 
-use crate::tries::turn_of;
+use crate::tries::TRIES;
 use std::alloc::Global;
 use tile_machine::parts::{PartFault, Parts};
 use tile_machine::phase::Phase;
+use tile_table::answer::Unseen;
 use tile_table::seat::Seat;
 use tile_table::table::TileTable;
 
-/// The readable part of the tile at place `j`, made while the seat holds its turn. It shows the same of the world's tile and of
-/// the finished one, so it doesn't matter which of them is there.
+/// The readable part of the tile at place `j`, looked at until it is seen, at most 1,000 times in a row. It shows the same of the
+/// world's tile and of the finished one, so it doesn't matter which of them is there.
 fn part_of<P: Phase>(
     alloc: Global,
     phase: &P,
@@ -34,20 +35,15 @@ fn part_of<P: Phase>(
     ensures part { IfOk result (λ p. (ps : List P.Part) → Shown (P.readable phase.now) (view seat.old) ps → At ps j p) }
     ensures tries { IfLateAt result (TriedInVain j (view seat.old) (view seat.new)) }
 {
-    match turn_of(table, seat, j) {
-        Ok(turn) => {
-            let part = phase.part(alloc, turn.tile());
-            table.give(seat, turn);
-            match part {
-                Ok(part) => Ok(part),
-                Err(_) => Err(PartFault::OutOfMemory),
-            }
+    let mut holder = 0;
+    for tried in 0..TRIES {
+        match table.look(alloc, phase, seat, j) {
+            Ok(part) => return Ok(part),
+            Err(Unseen::OutOfMemory) => return Err(PartFault::OutOfMemory),
+            Err(Unseen::Busy { holder: by }) => holder = by,
         }
-        Err(busy) => Err(PartFault::Late {
-            place: j,
-            holder: busy.holder,
-        }),
     }
+    Err(PartFault::Late { place: j, holder })
 }
 
 /// The readable parts of the world of a seat, read from the tiles that the workers share. A tile is read under its turn, which

@@ -1,35 +1,21 @@
 //! What no clause says: that the calls succeed, that workers run at once, and what a worker meets at a held turn.
 
-ghost use Rattle.std.specs.Prelude.{◌≡◌, ◌<◌, ◌≤◌, ◌^◌, length, IfOk};
+ghost use Rattle.std.specs.Prelude.{◌≡◌, ◌<◌, ◌≤◌, ◌^◌, length};
 
 use crate::{SeatParts, run_phase};
 use gates::{Counts, HoldsFirst};
 use host_port::{Gate, NoGate};
+use phase_samples::{Sums, summands};
 use plain_phases::{Failing, Meeting};
 use std::alloc::{AllocError, Global};
 use std::test::Fail;
 use std::thread::Threads;
-use sums::{Summand, Sums};
 use tile_machine::parts::{PartFault, Parts};
-use tile_table::answer::{Busy, Claim};
+use tile_table::answer::Claim;
 use tile_table::table::TileTable;
 
 mod gates;
 mod plain_phases;
-mod sums;
-
-/// These values, none of which has a total yet.
-fn summands(alloc: Global, values: &[u32]) -> Result<Vec<Summand>, AllocError>
-    ensures { IfOk result (λ tiles. length tiles.items ≡ length values.now) }
-{
-    values
-        .iter()
-        .map(|value| Summand {
-            value: *value,
-            total: 0,
-        })
-        .collect(alloc)
-}
 
 /// The totals of these values, by this many workers.
 fn totals<R: Threads + Sync, G: Gate>(
@@ -86,45 +72,31 @@ fn no_tiles(rt: HostRuntime) -> Result<(), Fail> {
     Ok(())
 }
 
-/// Worker 0 holds the turn of a tile: worker 1 is told so, and so is whoever reads the tile's part through its seat. After the
-/// turn was given back worker 1 has it.
+/// Worker 0 holds the turn of a tile: who reads the tile's part through the seat of worker 1 is told so. After the turn was given
+/// back the part is there.
 #[test]
 fn a_held_tile_is_late(rt: HostRuntime) -> Result<(), Fail> {
     let tiles = summands(rt.alloc(), &[1, 2, 3, 4])?;
     let (table, mut seat) = TileTable::new(rt.alloc(), &Sums, tiles, 2)?;
     let mut other = table.split(&mut seat, 1);
-    assert_eq!(rt; table.claim(&mut seat, 3), Claim::Mine);
-    assert_eq!(rt; table.claim(&mut other, 3), Claim::Taken { by: 0 });
+    let Claim::Mine = table.claim(&mut seat, 3) else {
+        panic!(rt; "claimed before")
+    };
+    let mut parts = SeatParts::new(&Sums, &table, &mut other);
     match table.take(&mut seat, 3) {
         Ok(turn) => {
-            match table.take(&mut other, 3) {
-                Ok(again) => table.give(&mut other, again),
-                Err(busy) => assert_eq!(rt; busy, Busy { holder: 0 }),
-            }
-            let mut parts = SeatParts::new(&Sums, &table, &mut other);
-            match parts.part(rt.alloc(), 3) {
-                Ok(part) => panic!(rt; "read {part} of a tile that is held"),
-                Err(fault) => {
-                    assert_eq!(rt;
-                        fault,
-                        PartFault::Late {
-                            place: 3,
-                            holder: 0
-                        }
-                    )
-                }
-            }
+            assert_eq!(rt;
+                parts.part(rt.alloc(), 3),
+                Err(PartFault::Late {
+                    place: 3,
+                    holder: 0
+                })
+            );
             table.give(&mut seat, turn);
         }
         Err(busy) => panic!(rt; "held by {}", busy.holder),
     }
-    match table.take(&mut other, 3) {
-        Ok(turn) => {
-            assert_eq!(rt; turn.tile().value, 4);
-            table.give(&mut other, turn);
-        }
-        Err(busy) => panic!(rt; "still held by {}", busy.holder),
-    }
+    assert_eq!(rt; parts.part(rt.alloc(), 3), Ok(4));
     Ok(())
 }
 

@@ -2,6 +2,7 @@
 
 ghost use Rattle.std.specs.Prelude.{◌≡◌, ◌<◌, length, IfOk, IfErr};
 ghost use Rattle.tile_table.specs.declared.view.Hand.{Hand};
+ghost use Rattle.tile_table.specs.Counts.{pairs};
 ghost use Rattle.tile_table.specs.Seats.{view, seat_name, IsAt};
 ghost use Rattle.phase_run.specs.Looks.{TurnGot, TriedInVain, Looked};
 
@@ -12,9 +13,9 @@ use tile_table::table::TileTable;
 
 /// How often a turn is tried in a row. A turn is held for one copy or one put, so a worker that tries this often meets one that
 /// was stopped in between; then other work is better than more tries.
-const TRIES: u64 = 1000;
+pub(crate) const TRIES: u64 = 1000;
 
-/// The turn of place `j`, tried at most 1,000 times in a row. `Busy` names the worker that held it at the last try.
+/// The turn of place `j`, which the seat has claimed, tried at most 1,000 times in a row. `Busy` names the worker that held it at the last try.
 pub(crate) fn turn_of<P: Phase>(
     table: &TileTable<P>,
     seat: &mut Seat<P>,
@@ -23,6 +24,7 @@ pub(crate) fn turn_of<P: Phase>(
     requires table { IsAt table.now seat.old }
     requires hand { (view seat.old).hand ≡ Hand.Empty }
     requires place { j < length (view seat.old).world }
+    requires claimed { 0 < pairs (view seat.old).first j (view seat.old).claims }
     ensures table { seat_name seat.new ≡ seat_name seat.old }
     ensures turn { IfOk result (λ turn. TurnGot (view seat.old) j turn (view seat.new)) }
     ensures missed { IfErr result (λ busy. Looked seat.old seat.new) }

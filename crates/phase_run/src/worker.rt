@@ -1,14 +1,15 @@
 //! What one worker does: it goes over all places, and finishes the tiles that it can claim.
 
-ghost use Rattle.std.specs.Prelude.{◌≡◌, ℕ, ◌+◌, ◌<◌, ◌≤◌, length, true, IfOk, OnOk};
+ghost use Rattle.std.specs.Prelude.{◌≡◌, ℕ, ◌+◌, ◌<◌, ◌≤◌, [], ◌∷◌, ◌++◌, length, true, IfOk, OnOk, ◌⊎◌};
 ghost use Rattle.tile_machine.specs.At.{At};
 ghost use Rattle.tile_machine.specs.Late.{IfLate};
 ghost use Rattle.tile_table.specs.declared.view.Hand.{Hand};
 ghost use Rattle.tile_table.specs.Counts.{times, pairs};
 ghost use Rattle.tile_table.specs.Seats.{view, IsAt};
+ghost use Rattle.phase_run.specs.declared.worker.Visit.{Visit};
 ghost use Rattle.phase_run.specs.Looks.{IsAlone, Loses, Looked, TookOne, tries_in_a_row};
 ghost use Rattle.phase_run.specs.Tries.{HadOrLate};
-ghost use Rattle.phase_run.specs.Workers.{Ready, Worked, Ended, Visits, GoesOver, WentOver, FinishesClaims};
+ghost use Rattle.phase_run.specs.Workers.{Ready, Worked, Ended, Visits, Waiting, Finishes, GoesOver, WentOver, FinishesClaims};
 
 use crate::seat_parts::SeatParts;
 use crate::tries::turn_of;
@@ -192,7 +193,17 @@ fn one_place<P: Phase, G: Gate>(
     }
 }
 
-/// Goes over the places from `from` up to `to`, in order. Where there isn't memory enough, the worker stops.
+/// Notes a place that was put off, if there is room for it.
+fn note(places: &mut Vec<u64>, visit: Visit, i: u64)
+    ensures { (places.new.items ≡ places.old.items) ⊎ ((visit ≡ Visit.PutOff) × (places.new.items ≡ places.old.items ++ i ∷ [])) }
+{
+    if let Visit::PutOff = visit {
+        let _ = places.push(i);
+    }
+}
+
+/// Goes over the places from `from` up to `to`, in order, and notes those that it puts off. Where there isn't memory enough, the
+/// worker stops.
 fn go_over<P: Phase, G: Gate>(
     alloc: Global,
     phase: &P,
@@ -201,17 +212,48 @@ fn go_over<P: Phase, G: Gate>(
     seat: &mut Seat<P>,
     from: u64,
     to: u64,
+    later: &mut Vec<u64>,
     gate: &G,
 ) -> Result<(), AllocError>
     requires ready { Ready table.now (P.fits phase.now) (P.finished phase.now) seat.old }
     requires order { from ≤ to }
     requires places { to ≤ length (view seat.old).world }
+    requires waiting { Waiting (view seat.old) later.old.items }
     ensures worked { Worked seat.old seat.new }
     ensures loses { Loses (view seat.old) (view seat.new) }
     ensures goes_over { OnOk result (GoesOver from to (view seat.old) (view seat.new)) }
+    ensures waiting { OnOk result (Waiting (view seat.new) later.new.items) }
 {
     for i in from..to {
         match one_place(alloc, phase, number, table, seat, i, gate) {
+            Ok(visit) => note(later, visit, i),
+            Err(fault) => return Err(fault),
+        }
+    }
+    Ok(())
+}
+
+/// Tries the places once more that were put off.
+fn go_over_again<P: Phase, G: Gate>(
+    alloc: Global,
+    phase: &P,
+    number: u8,
+    table: &TileTable<P>,
+    seat: &mut Seat<P>,
+    mut later: Vec<u64>,
+    gate: &G,
+) -> Result<(), AllocError>
+    requires ready { Ready table.now (P.fits phase.now) (P.finished phase.now) seat.old }
+    requires waiting { Waiting (view seat.old) later.items }
+    ensures worked { Worked seat.old seat.new }
+    ensures loses { Loses (view seat.old) (view seat.new) }
+    ensures finishes { OnOk result (Finishes (view seat.old) (view seat.new)) }
+{
+    for _ in 0..later.len() {
+        let Some(i) = later.pop() else {
+            return Ok(());
+        };
+        match finish_claimed(alloc, phase, number, table, seat, i, gate) {
             Ok(_) => {}
             Err(fault) => return Err(fault),
         }
@@ -219,8 +261,9 @@ fn go_over<P: Phase, G: Gate>(
     Ok(())
 }
 
-/// The whole work of one worker, which goes over all places: from `start` up to the last, and then from the first. The answer is
-/// its seat, and whether there was memory enough: where there wasn't, the worker claims no more.
+/// The whole work of one worker, which goes over all places: from `start` up to the last, and then from the first. What it has to
+/// put off it tries once more at the end. The answer is its seat, and whether there was memory enough: where there wasn't, the
+/// worker claims no more.
 pub(crate) fn work<P: Phase, G: Gate>(
     alloc: Global,
     phase: &P,
@@ -237,11 +280,20 @@ pub(crate) fn work<P: Phase, G: Gate>(
 {
     let tiles = seat.tiles();
     let start = start.min(tiles);
-    match go_over(alloc, phase, number, table, &mut seat, start, tiles, gate) {
+    let mut later = Vec::new(alloc);
+    match go_over(
+        alloc, phase, number, table, &mut seat, start, tiles, &mut later, gate,
+    ) {
         Ok(()) => {}
         Err(_) => return (seat, false),
     }
-    match go_over(alloc, phase, number, table, &mut seat, 0, start, gate) {
+    match go_over(
+        alloc, phase, number, table, &mut seat, 0, start, &mut later, gate,
+    ) {
+        Ok(()) => {}
+        Err(_) => return (seat, false),
+    }
+    match go_over_again(alloc, phase, number, table, &mut seat, later, gate) {
         Ok(()) => (seat, true),
         Err(_) => (seat, false),
     }

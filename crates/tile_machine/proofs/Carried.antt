@@ -16,7 +16,7 @@ use Rattle.tile_machine.specs.Next.{Answer, next, names, if_next, after, leads}
 use Rattle.tile_machine.specs.Values.{Values, opening, home_at, tile_by, value_of, is_marked, moved, carried, state_after, values_after, PlacedByMark, ReadAsWorld, AllDone, CarriesValues}
 use Rattle.tile_machine.proofs.Guards.{past_given, past_unless, past_provided}
 use Rattle.tile_machine.proofs.Lists.{get-set_same, get-set_other}
-use Rattle.tile_machine.proofs.Places.{at-map}
+use Rattle.tile_machine.specs.Bridges.{at-map}
 
 -- an element that `get` gives stands at its place
 at_get : {A : Type 0} (xs : List A) (j : ℕ) (x : A) → slice_get xs j ≡ Some x → At xs j x

@@ -2,8 +2,8 @@ pub mod Lists
 pub mod Guards
 pub mod Workers
 pub mod Kept
-pub mod Places
 pub mod Begins
 pub mod Carried
 pub mod EveryEvent
 pub mod Runs
+pub mod ClaimsStay

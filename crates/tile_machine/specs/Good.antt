@@ -1,6 +1,8 @@
-use Rattle.std.specs.Prelude.{◌≡◌, ℕ, Option, Some, IsSome, option_and_then, Bool, true, false, ◌&&◌, length, count_by, All, ◌↔◌, nat_lt, nat_le, if◌then◌else◌}
+use Rattle.std.specs.Prelude.{◌≡◌, ℕ, List, Option, Some, IsSome, option_and_then, Bool, true, false, ◌&&◌, length, count_by, All, ◌↔◌, nat_lt, nat_le, if◌then◌else◌}
 use Rattle.tile_machine.specs.declared.state.Worker.{Worker}
+use Rattle.tile_machine.specs.declared.event.Event.{Event}
 use Rattle.tile_machine.specs.State.{State, worker_of, cell_of}
+use Rattle.tile_machine.specs.Next.{leads}
 
 -- the tile whose turn the live worker of this number holds
 abbrev pub hand_of : State → ℕ → Option ℕ
@@ -27,3 +29,11 @@ pub record IsGood (workers : ℕ) (s : State) : Type 0 where
   pub out_held : All (λ c. c.home ≡ false → IsSome c.turn) s.cells
   -- a marked tile has a claim
   pub marked_claimed : All (λ c. c.marked ≡ true → IsSome c.claim) s.cells
+
+-- the worker that has claimed this tile
+abbrev pub claimant_of : State → ℕ → Option ℕ
+claimant_of s tile = option_and_then (λ c. c.claim) (cell_of s tile)
+
+-- a tile that this worker has claimed is its claim still, whatever the events are
+abbrev pub ClaimStays : State → List Event → ℕ → ℕ → Type 0
+ClaimStays s events tile by = claimant_of s tile ≡ Some by → claimant_of (leads s events) tile ≡ Some by

@@ -1,4 +1,5 @@
 pub mod At
+pub mod Bridges
 pub mod FromParts
 pub mod Good
 pub mod Late

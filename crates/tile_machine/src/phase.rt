@@ -44,8 +44,9 @@ pub trait Phase {
         tile: Self::Tile,
         parts: &mut S,
     ) -> Result<Self::Tile, PartFault>
-        requires { (world : List Self.Tile) × fits self.now world
+        requires world { (world : List Self.Tile) × fits self.now world
             × S.shows parts.old (map (readable self.now) world) × At world i tile }
+        requires inside { i < S.places parts.old }
         ensures stays { S.stays parts.old parts.new }
         ensures lost { S.lost parts.old ≤ S.lost parts.new }
         ensures done { IfOk result (λ t. (world : List Self.Tile) → fits self.now world

@@ -1,68 +1,18 @@
 //! What no clause says: the answers of calls on examples that were worked out by hand, and of the machine beside a plain
 //! slow program.
 
-ghost use Rattle.std.specs.Prelude.{◌<◌, ◌≤◌, ◌^◌, length, IfOk};
-ghost use Rattle.tile_machine.specs.At.{At};
-ghost use Rattle.tile_machine.specs.Late.{IfLate};
+ghost use Rattle.std.specs.Prelude.{◌<◌, ◌≤◌, ◌^◌};
 
 use crate::event::Event;
 use crate::machine::Machine;
-use crate::parts::{PartFault, Parts};
-use crate::phase::Phase;
-use crate::plain::PlainParts;
 use crate::refused::Refused;
-use crate::values::values_follow_marks;
+use crate::values::claims_stay;
 use slow::Slow;
 use std::alloc::Global;
 use std::process::Abort;
 use std::test::Fail;
-use sums::{Summand, Sums};
 
 mod slow;
-mod sums;
-
-/// The finished tile of a place of a plain list, through the bounds of the traits.
-fn finished_tile<P: Phase>(
-    alloc: Global,
-    phase: &P,
-    tiles: &[P::Tile],
-    i: u64,
-) -> Result<P::Tile, PartFault>
-    requires fits { P.fits phase.now tiles.now }
-    requires inside { i < length tiles.now }
-    ensures done { IfOk result (λ t. At (P.finished phase.now tiles.now) i t) }
-    ensures never_late { IfLate result ⊥ }
-{
-    let Ok(tile) = phase.copy(alloc, &tiles[i as usize]) else {
-        return Err(PartFault::OutOfMemory);
-    };
-    let mut parts = PlainParts { phase, tiles };
-    phase.rewrite(alloc, i, tile, &mut parts)
-}
-
-/// Values 1, 2 and 3 have the sum 6, also where a neighbour that is read is finished already.
-#[test]
-fn sums_of_three(rt: HostRuntime) -> Result<(), Fail> {
-    let alloc = rt.alloc();
-    let mut tiles = [1, 2, 3].map(|value| Summand { value, total: 0 });
-    for i in 0..3 {
-        let done = finished_tile(alloc, &Sums, &tiles, i)?;
-        assert_eq!(rt; done.total, 6, "at {i}");
-        assert_eq!(rt; done.value, tiles[i as usize].value);
-        assert_eq!(rt; Sums.part(alloc, &done)?, done.value);
-        tiles[i as usize] = done;
-    }
-    assert_eq!(rt;
-        PlainParts {
-            phase: &Sums,
-            tiles: &tiles
-        }
-        .count(),
-        3
-    );
-    values_follow_marks::<Sums>();
-    Ok(())
-}
 
 /// Two workers finish one tile each, and one joins the other: each of these events is accepted.
 #[test]
@@ -85,6 +35,7 @@ fn a_whole_run(rt: HostRuntime) -> Result<(), Fail> {
     })?;
     let mut machine = Machine::new(rt.alloc(), 2, 2)?;
     assert_eq!(rt; machine.run(&events), 14);
+    claims_stay();
     Ok(())
 }
 

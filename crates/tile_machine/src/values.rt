@@ -1,6 +1,8 @@
-//! What the events do to the tiles' values.
+//! What the events do to the tiles' values, and never do to a claim.
 
 ghost use Rattle.std.specs.Prelude.{ℕ, List};
+ghost use Rattle.tile_machine.specs.Good.{ClaimStays};
+ghost use Rattle.tile_machine.specs.State.{State};
 ghost use Rattle.tile_machine.specs.Values.{CarriesValues};
 ghost use Rattle.tile_machine.specs.declared.event.Event.{Event};
 
@@ -16,4 +18,10 @@ pub fn values_follow_marks<P: Phase>()
     ensures { (phase : P) (world : List P.Tile) (workers : ℕ) (events : List Event)
         → P.fits phase world
         → CarriesValues (P.readable phase) world (P.finished phase world) workers events }
+{}
+
+/// The law of claims, for each state and every list of events: a tile that has a claim keeps it, so it has one claimant and no
+/// other for good. The function does nothing: its clause speaks of the states that the machine's calls lead to.
+pub fn claims_stay()
+    ensures { (s : State) (events : List Event) (tile by : ℕ) → ClaimStays s events tile by }
 {}

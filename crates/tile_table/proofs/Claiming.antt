@@ -21,6 +21,12 @@ module _ {T : Type 0} where
       dite (ℕ_discrete (marking i v) 0) (λ e. e)
       (λ ne. let c = sh.marks.claimed k v i at (omega arith) in absurd (omega (arith, own-claim s sh k v c.0 i at c.1, free)))
 
+  -- and hasn't claimed
+  pub unclaimed : (s : Table T) → Shows s → (k : ℕ) (v : View T) (i : ℕ) → Knows s k v → claim_of s i ≡ 0 → (by : ℕ) → claiming by i v ≡ 0
+  unclaimed s sh k v i at free by =
+      dite (ℕ_discrete (claiming by i v) 0) (λ e. e)
+      (λ ne. absurd (omega (arith, own-claim s sh k v by i at (omega arith), free)))
+
   pub claims-place : (s : Table T) → (sh : Shows s) → (k : ℕ) (v : View T) (j : ℕ) → Knows s k v → v.first < v.end
       → claim_of s j ≡ 0 → j < length s.homes
       → Shows (become s (slice_set s.words (3 * j) (v.first + 1)) s.homes k (with_claim v j))

@@ -1,14 +1,17 @@
 -- each kind of step is the machine's event
-use Rattle.std.proofs.Common.{◌≡◌, ℕ, zero, suc, ◌+◌, ◌-◌, ◌*◌, ◌<◌, ◌≤◌, ◌≢◌, ⊎_elim, Bool, true, false, not, ◌&&◌, ◌||◌, List, [], ◌∷◌, ◌++◌, length, refl, ap, sym, ◌∙◌, subst, eqb, eq-eqb, ne_eqb, nat_lt, arith}
-use Rattle.std.specs.Prelude.{Option, Some, None, Ok, Err, Result, slice_index, slice_set, if◌then◌else◌}
+use Rattle.std.proofs.Common.{◌≡◌, ℕ, zero, suc, ◌+◌, ◌-◌, ◌*◌, ◌<◌, ◌≤◌, ◌≢◌, ⊎_elim, Bool, true, false, not, ◌&&◌, ◌||◌, List, [], ◌∷◌, ◌++◌, length, map, refl, ap, sym, ◌∙◌, subst, eqb, eq-eqb, ne_eqb, nat_lt, arith}
+use Rattle.std.specs.Prelude.{Option, Some, None, Ok, Err, Result, slice_index, slice_set, replicate, ◌==◌, if◌then◌else◌}
 use Rattle.std.proofs.lemmas.Bool.Decides.{nat_tests}
-use Rattle.std.proofs.lemmas.List.{length-set}
+use Rattle.std.proofs.lemmas.List.{length-set, length-map}
+use mathlib.Core.Logic.{dite}
+use native.Mathlib.Decide.{ℕ_discrete}
 use mathlib.Core.Option.{some, none, some-ne-none, some-injective}
-use Rattle.atomic_table.specs.Table.{keeps, takes, gives, stepped}
+use Rattle.atomic_table.specs.Table.{opening, keeps, takes, gives, stepped}
 use Rattle.std.proofs.Math.ListN.{get_elem?}
 use Rattle.atomic_table.proofs.Lists.{at_set, set_else}
 use Rattle.tile_machine.specs.declared.refused.Refused.{Refused}
-use Rattle.tile_machine.specs.State.{State, worker_of, cell_of, with_cell, with_worker, ranging}
+use Rattle.std.specs.List.{range_with_len}
+use Rattle.tile_machine.specs.State.{State, worker_of, cell_of, with_cell, with_worker, ranging, untouched, start}
 use Rattle.tile_machine.specs.Next.{next, if_next, given, unless, provided, names}
 use Rattle.tile_machine.specs.declared.state.Cell.{Cell}
 use Rattle.tile_machine.specs.declared.state.Worker.{Worker}
@@ -17,11 +20,12 @@ use Rattle.tile_machine.specs.declared.refused.Refused.TheVariants.{NoWorker, No
 use Rattle.tile_table.specs.declared.view.View.{View}
 use Rattle.tile_table.specs.declared.view.Hand.TheVariants.{Empty, Holds}
 use Rattle.tile_table.specs.Counts.{bit}
-use Rattle.tile_table.specs.Views.{claiming, marking, with_claim, with_take, with_mark, with_no_hand, lower, upper, joined, nobody}
+use Rattle.tile_table.specs.Views.{opening_view, claiming, marking, with_claim, with_seen, with_lost, with_known, with_take, with_mark, with_no_hand, lower, upper, joined, nobody}
 use Rattle.tile_table.specs.Shows.{Table, Shows, Knows, claim_of, turn_of, mark_of}
-use Rattle.tile_table.specs.Events.{named, with_views, is_worker, listed, place_held, cell_at, worker_of_view, worker_at, shown, placed, StepsAreEvents}
+use Rattle.tile_table.specs.Events.{named, with_views, is_worker, listed, place_held, cell_at, worker_of_view, worker_at, shown, StepsAreEvents, BeginsAsMachine}
 use Rattle.tile_table.proofs.Bits.{bit-le, within}
-use Rattle.tile_table.proofs.Words.{read-here, read-else}
+use Rattle.tile_table.proofs.Words.{read-here, read-else, write-same}
+use Rattle.tile_table.proofs.FirstState.{zeros}
 use Rattle.tile_table.proofs.Hands.{word-of-hand, inside-of-word}
 use Rattle.tile_table.proofs.Facts.{own-claim, not-yet, one-seat}
 use Rattle.tile_table.proofs.Listed.{choose, named-by, worker-found, same-listed, set-listed, worker-lives, workers-same, workers-else, cell-there}
@@ -53,6 +57,10 @@ named-some n x y h = pick (nat_lt x n) (grind (arith, nat_tests))
     pick : (b : Bool) → b ≡ false → (if b then None else Some (x - n)) ≡ Some y
     pick true e = absurd (grind arith)
     pick false e = ap (λ z. Some z) (omega arith)
+
+-- whether the values are inside, with this answer for place j
+abbrev placed : (ℕ → Bool) → ℕ → Bool → ℕ → Bool
+placed inside j filled i = if i == j then filled else inside i
 
 -- a cell, by its words
 abbrev cell_by : ℕ → ℕ → ℕ → Bool → Cell
@@ -92,6 +100,10 @@ passed b r x e = ap (λ t. provided t r x) e
 
 names-one : (o : Option ℕ) (n : ℕ) → o ≡ Some n → names o n ≡ true
 names-one o n e = ap (λ p. names p n) e ∙ eq-eqb n n refl
+
+true-or : (b c d : Bool) → b ≡ true → (b || c) ≡ (b || d)
+true-or true c d e = refl
+true-or false c d e = absurd (grind arith)
 
 or-true : (b c : Bool) → c ≡ true → (b || c) ≡ true
 or-true true c e = refl
@@ -394,17 +406,93 @@ module _ {T : Type 0} where
       (sym (none-found left w.first nobody-left) ∙ ap (worker_at left) (omega arith))
       (λ i ne. sym (gone-off grown other i w ct (λ e. ne (omega (arith, e)))))))
 
+  -- the seat knows more, and the word keeps its number: what is shown is the same
+  still-shown : (s : Table T) (workers k word n : ℕ) (v w : View T) (inside : ℕ → Bool) (c : List (ℕ × Option T)) → Knows s k v → slice_index s.words word ≡ n
+      → worker_of_view w ≡ worker_of_view v → shown workers inside (stepped s word n k c w keeps) ≡ shown workers inside s
+  still-shown s workers k word n v w inside c at found same =
+      ap (λ ws. shown workers inside record { words = ws; homes = s.homes; views = slice_set s.views k w }) (write-same s.words word n found)
+      ∙ states-same (shown workers inside record { words = s.words; homes = s.homes; views = slice_set s.views k w }) (shown workers inside s) refl
+      (same-listed (worker_at (slice_set s.views k w)) (worker_at s.views) 0 workers (λ i le. workers-same s.views k v w at same i))
+
+  -- where the turn is free, the value is at home whatever the slots out with seats say
+  home-shown : (s : Table T) (workers j : ℕ) (inside : ℕ → Bool) → turn_of s j < 2 → shown workers inside s ≡ shown workers (placed inside j true) s
+  home-shown s workers j inside free =
+      states-same (shown workers inside s) (shown workers (placed inside j true) s)
+      (same-listed (cell_at s inside) (cell_at s (placed inside j true)) 0 (length s.homes)
+      (λ i le. dite (ℕ_discrete i j)
+      (λ e. λ x. record { claim = named 1 (claim_of s i); turn = named 2 (turn_of s i); marked = eqb (mark_of s i) 1; home = at-home i (subst (λ n. turn_of s n < 2) (sym e) free) x })
+      (λ ne. cells-same (claim_of s i) (claim_of s i) (turn_of s i) (turn_of s i) (mark_of s i) (mark_of s i) (inside i) (placed inside j true i) refl refl refl (sym (off-place inside j i true ne)))))
+      refl
+    where
+      at-home : (i : ℕ) → turn_of s i < 2 → (nat_lt (turn_of s i) 2 || inside i) ≡ (nat_lt (turn_of s i) 2 || placed inside j true i)
+      at-home i low = let low_test : nat_lt (turn_of s i) 2 ≡ true = grind (arith, nat_tests) in true-or (nat_lt (turn_of s i) 2) (inside i) (placed inside j true i) low_test
+
   pub events : (s : Table T) → (sh : Shows s) → StepsAreEvents s sh.workers
   events s sh =
       record {
         claim = claim-event s sh;
-        claimed = claimed-event s sh;
-        take = take-event s sh;
-        held = held-event s sh;
-        bring_out = bring-event s sh;
-        mark = mark-event s sh;
-        put_back = put-event s sh;
-        free = free-event s sh;
+        claimed = λ k v i by inside c at live there found. (
+          claimed-event s sh k v i by inside at live there found,
+          still-shown s sh.workers k (3 * i) (by + 1) v (with_seen v i by) inside c at found refl,
+        );
+        take = λ k v j m t inside c at live there empty free.
+            ap (λ a. next a (Take v.first j)) (home-shown s sh.workers j inside (let le : bit m ≤ 1 = bit-le m in omega (arith, free, le)))
+            ∙ take-event s sh k v j m (Some t) inside c at live there empty free;
+        held = λ k v j h inside c at live there empty found. (
+          held-event s sh k v j h inside at live there empty found,
+          still-shown s sh.workers k (3 * j + 1) (h + 2) v (with_lost v j h) inside c at found refl,
+        );
+        read_marked = λ k v j inside c at found. still-shown s sh.workers k (3 * j + 1) 1 v (with_known v j) inside c at found refl;
+        bring_out = λ k v j m t inside at live has. bring-event s sh k v j m inside at live has;
+        mark = λ k v j m inside at live has mine nil. mark-event s sh k v j m inside ((j, None) ∷ []) at live has mine nil;
+        put_back = λ k v j m t inside at live has. put-event s sh k v j m inside at live has;
+        free = λ k v j m t inside at live has.
+            free-event s sh k v j m (Some t) inside [] at live has
+            ∙ ap (λ a. Ok a) (sym (home-shown (stepped s (3 * j + 1) (bit m) k ((j, Some t) ∷ []) (with_no_hand v) gives) sh.workers j inside (freed-low s sh k v j m t at has)));
         split = split-event s sh;
         join = join-event s sh;
       }
+    where
+      freed-low : (s : Table T) → (sh : Shows s) → (k : ℕ) (v : View T) (j : ℕ) (m : Bool) (t : T) → Knows s k v → v.hand ≡ Holds j m
+          → turn_of (stepped s (3 * j + 1) (bit m) k ((j, Some t) ∷ []) (with_no_hand v) gives) j < 2
+      freed-low s sh k v j m t at has =
+          let there : j < length s.homes = inside-of-word s sh j v.first (word-of-hand s sh k v j m at has) in
+          let le : bit m ≤ 1 = bit-le m in
+          omega (arith, read-here s.words (3 * j + 1) (bit m) (omega (arith, sh.one_world.words, there)), le)
+
+-- a list of one thing
+all-one : {A : Type 0} (f : ℕ → A) (x : A) (i n : ℕ) → ((k : ℕ) → f k ≡ x) → listed f i n ≡ replicate n x
+all-one f x i zero h = refl
+all-one f x i (suc n) h = ap (λ y. y ∷ listed f (suc i) n) (h i) ∙ ap (λ ys. x ∷ ys) (all-one f x (suc i) n h)
+
+-- numbers in a row
+all-idle : {A : Type 0} (f g : ℕ → A) (i n : ℕ) → ((k : ℕ) → i ≤ k → f k ≡ g k) → listed f i n ≡ map g (range_with_len i n)
+all-idle f g i zero h = refl
+all-idle f g i (suc n) h = ap (λ y. y ∷ listed f (suc i) n) (h i (omega arith)) ∙ ap (λ ys. g i ∷ ys) (all-idle f g (suc i) n (λ k le. h k (omega arith)) ∙ ap (λ k. map g (range_with_len k n)) (omega arith))
+
+module _ {T : Type 0} where
+  untouched-at : (world goal : List T) (workers : ℕ) (inside : ℕ → Bool) (i : ℕ)
+      → cell_at (opening (replicate (3 * length world) 0) (map Some world) (opening_view world goal workers)) inside i ≡ untouched
+  untouched-at world goal workers inside i =
+      cells-same (slice_index (replicate (3 * length world) 0) (3 * i)) 0 (slice_index (replicate (3 * length world) 0) (3 * i + 1)) 0 (slice_index (replicate (3 * length world) 0) (3 * i + 2)) 0
+      (inside i) (inside i) (zeros (3 * length world) (3 * i)) (zeros (3 * length world) (3 * i + 1)) (zeros (3 * length world) (3 * i + 2)) refl
+
+  only-first : (v : View T) (n : ℕ) → v.first < n → worker_at (v ∷ []) n ≡ ranging n n
+  only-first v n off = choose (is_worker n v) (worker_of_view v) (ranging n n) (ranging n n) (λ t. absurd (omega (arith, (named-by v n t).0, off))) (λ f. refl)
+
+  first-workers : (world goal : List T) (workers : ℕ) → 1 ≤ workers
+      → listed (worker_at (opening_view world goal workers ∷ [])) 0 workers ≡ slice_set (map (λ n. ranging n n) (range_with_len 0 workers)) 0 (ranging 0 workers)
+  first-workers world goal zero some_workers = absurd (omega arith)
+  first-workers world goal (suc n) some_workers =
+      ap (λ w. w ∷ listed (worker_at (opening_view world goal (suc n) ∷ [])) 1 n)
+      (choose (is_worker 0 (opening_view world goal (suc n))) (worker_of_view (opening_view world goal (suc n))) (ranging 0 0) (ranging 0 (suc n)) (λ t. refl) (λ f. absurd (grind (arith, nat_tests))))
+      ∙ ap (λ ws. ranging 0 (suc n) ∷ ws)
+      (all-idle (worker_at (opening_view world goal (suc n) ∷ [])) (λ k. ranging k k) 1 n (λ k le. only-first (opening_view world goal (suc n)) k (omega (arith, le))))
+
+  pub begins : (world goal : List T) (workers : ℕ) → 1 ≤ workers → BeginsAsMachine world goal workers
+  begins world goal workers some_workers inside =
+      let s : Table T = opening (replicate (3 * length world) 0) (map Some world) (opening_view world goal workers) in
+      states-same (shown workers inside s) (start (length world) workers)
+      (all-one (cell_at s inside) untouched 0 (length s.homes) (untouched-at world goal workers inside)
+      ∙ ap (λ n. replicate n untouched) (length-map (map Some world) some ∙ length-map world Some))
+      (first-workers world goal workers some_workers)

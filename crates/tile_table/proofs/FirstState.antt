@@ -18,7 +18,7 @@ use Rattle.tile_table.specs.Shows.{Table, Shows, Knows, claim_of, mark_of}
 use Rattle.tile_table.proofs.Bits.{same-ne}
 use Rattle.tile_table.proofs.Hands.{not-empty}
 
-zeros : (n i : ℕ) → slice_index (replicate n 0) i ≡ 0
+pub zeros : (n i : ℕ) → slice_index (replicate n 0) i ≡ 0
 zeros n i = dite (dec_lt i n) (λ h. get_or-replicate n i 0 0 h) (λ ne. get_or_past (replicate n 0) i 0 (omega (arith, length-replicate {A = ℕ} n 0)))
 
 from-zero : (x b : ℕ) → bit (nat_le 0 x && nat_lt x b) ≡ bit (nat_lt x b)

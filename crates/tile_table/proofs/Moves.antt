@@ -1,6 +1,6 @@
 -- what each atomic step owes the table: a new view and an act that keep the rule, and what the step tells
 use Rattle.std.proofs.Common.{◌≡◌, ℕ, zero, suc, ◌+◌, ◌*◌, ◌<◌, ◌≤◌, Bool, true, false, List, [], ◌∷◌, ◌++◌, length, refl, ap, sym, ◌∙◌, subst, eqb, arith}
-use Rattle.std.specs.Prelude.{Option, Some, slice_index, slice_set}
+use Rattle.std.specs.Prelude.{Option, Some, None, slice_index, slice_set}
 use prog.Atomic.{either}
 use Rattle.atomic_table.specs.Table.{Act, keeps, takes, gives, stepped, Valid, carried_after, Allows}
 use Rattle.tile_machine.specs.At.{At}
@@ -17,7 +17,7 @@ use Rattle.tile_table.proofs.Facts.{own-mark, not-yet, another, tile-there, tile
 use Rattle.tile_table.proofs.Looks.{looked}
 use Rattle.tile_table.proofs.Taking.{takes-turn}
 use Rattle.tile_table.proofs.Freeing.{frees-turn}
-use Rattle.tile_table.proofs.Claiming.{claims-place, unmarked}
+use Rattle.tile_table.proofs.Claiming.{claims-place, unmarked, unclaimed}
 use Rattle.tile_table.proofs.MarkSet.{sets-mark}
 
 -- the list of a seat has one pair more
@@ -54,14 +54,14 @@ module _ {T : Type 0} where
       refl
 
   had-claim : (s : Table T) → Shows s → (id : ℕ) (me : Sat T) (i x : ℕ) → Knows s id me.0 → me.0.first < me.0.end → i < length s.homes → claim_of s i ≡ 0 → x ≡ me.0.first + 1
-      → Goes s id me (3 * i) x (λ r. (r ≡ (with_claim me.0 i, me.1)) × (times i me.0.marks ≡ 0))
+      → Goes s id me (3 * i) x (λ r. (r ≡ (with_claim me.0 i, me.1)) × (times i me.0.marks ≡ 0) × ((by : ℕ) → pairs by i me.0.claims ≡ 0))
   had-claim s sh id me i x at live inside found e =
       let v = me.0 in (
         with_claim v i,
         keeps,
         tt,
         subst (λ n. Shows (stepped s (3 * i) n id me.1 (with_claim v i) keeps)) (sym e) (claims-place s sh id v i at live found inside),
-        (refl, unmarked s sh id v i at found),
+        (refl, unmarked s sh id v i at found, unclaimed s sh id v i at found),
       )
 
   claims-at : (s : Table T) → Shows s → (id : ℕ) (me : Sat T) (i number : ℕ) → Knows s id me.0 → me.0.first < me.0.end → i < length s.homes → number ≡ me.0.first
@@ -162,22 +162,30 @@ module _ {T : Type 0} where
         λ i e. subst (λ n. turn_told m n me (turn_of s j) (g.0, carried_after me.1 g.1)) (omega (arith, e)) g.4,
       )
 
-  -- the store to a mark word
-  pub marks : (slots id : ℕ) (me : Sat T) (j : ℕ) (m : Bool) → me.0.first < me.0.end → me.0.hand ≡ Holds j m → 0 < claiming me.0.first j me.0 → marking j me.0 ≡ 0
+  -- the store to a mark word, while the value is out
+  pub marks : (slots id : ℕ) (me : Sat T) (v : View T) (j : ℕ) (m : Bool) → me ≡ (v, (j, None) ∷ []) → v.first < v.end → v.hand ≡ Holds j m → 0 < claiming v.first j v → marking j v ≡ 0
       → Allows Shows slots id me (3 * j + 2) (λ _. 1) (λ _. marked (3 * j + 2) me)
-  marks slots id me j m live has mine nil s sh len at fits = (
-    with_mark me.0 j,
-    keeps,
-    tt,
-    sets-mark s sh id me.0 j m at live has mine nil,
-    λ i e. subst (λ n. ◌≡◌ {A = Sat T} (with_mark me.0 j, me.1) (with_mark me.0 n, me.1)) (omega (arith, e)) refl,
-  )
+  marks slots id me v j m is live has mine nil =
+      subst (λ x. Allows Shows slots id x (3 * j + 2) (λ _. 1) (λ _. marked (3 * j + 2) x)) (sym is)
+      (λ s sh len at fits. (
+        with_mark v j,
+        keeps,
+        tt,
+        sets-mark s sh id v j m at live has mine nil,
+        λ i e. let same : j ≡ i = omega (arith, e) in (
+          mark-same v j i same,
+          ap (λ n. (n, None) ∷ []) same,
+        ),
+      ))
+    where
+      mark-same : (v : View T) (j i : ℕ) → j ≡ i → ◌≡◌ {A = Sat T} (with_mark v j, (j, None) ∷ []) (with_mark v i, (j, None) ∷ [])
+      mark-same v j i same = ap (λ n. (with_mark v n, (j, None) ∷ [])) same
 
-  -- the store to the turn word of the place in hand
-  pub frees : (slots id : ℕ) (me : Sat T) (v : View T) (c : List (ℕ × Option T)) (j n : ℕ) (m : Bool) (t : T) → me ≡ (v, (j, Some t) ∷ c) → v.first < v.end
+  -- the store to the turn word of the place in hand, whose value is in its slot again
+  pub frees : (slots id : ℕ) (me : Sat T) (v : View T) (j n : ℕ) (m : Bool) (t : T) → me ≡ (v, (j, Some t) ∷ []) → v.first < v.end
       → v.hand ≡ Holds j m → At (tiles_by m v.world v.goal) j t → n ≡ bit m
       → Allows Shows slots id me (3 * j + 1) (λ _. n) (λ _. freed me)
-  frees slots id me v c j n m t is live has stands spelled =
+  frees slots id me v j n m t is live has stands spelled =
       subst (λ x. Allows Shows slots id x (3 * j + 1) (λ _. n) (λ _. freed x)) (sym is)
       (λ s sh len at fits.
       let w = sh.one_world.worlds id v at live in
@@ -185,6 +193,6 @@ module _ {T : Type 0} where
         with_no_hand v,
         gives,
         tt,
-        subst (λ x. Shows (stepped s (3 * j + 1) x id ((j, Some t) ∷ c) (with_no_hand v) gives)) (sym spelled) (frees-turn s sh id v j m t at live has stood),
-        refl,
+        subst (λ x. Shows (stepped s (3 * j + 1) x id ((j, Some t) ∷ []) (with_no_hand v) gives)) (sym spelled) (frees-turn s sh id v j m t at live has stood),
+        (refl, (j, t, refl)),
       ))

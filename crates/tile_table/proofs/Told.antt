@@ -1,5 +1,5 @@
 -- what a step told, as the seat's fields and the calls' clauses want it
-use Rattle.std.proofs.Common.{◌≡◌, ℕ, zero, suc, ◌-◌, ◌<◌, ◌≤◌, ◌≢◌, Bool, true, false, List, [], ◌∷◌, length, refl, ap, sym, ◌∙◌, subst, arith}
+use Rattle.std.proofs.Common.{◌≡◌, ℕ, zero, suc, ◌-◌, ◌<◌, ◌≤◌, ◌≢◌, Bool, true, false, List, [], ◌∷◌, length, map, refl, ap, sym, ◌∙◌, subst, arith}
 use Rattle.std.specs.Prelude.{Option, Some, None}
 use Rattle.std.proofs.lemmas.Bool.Decides.{nat_tests}
 use Rattle.atomic_table.specs.Table.{rest}
@@ -14,34 +14,38 @@ use Rattle.tile_table.specs.Slots.{slots_fit, is_none, is_only}
 use Rattle.tile_table.specs.Views.{tiles_by, with_claim, with_seen, with_take, with_known, knowing, with_lost, IsAnother}
 use Rattle.tile_table.specs.Steps.{Sat, claim_told, turn_told, Took, LostTo}
 use Rattle.tile_table.specs.Seats.{turn_place, turn_tile, turn_marked}
-use Rattle.tile_table.specs.Calls.{Claimed, TurnHad, TurnMissed}
-use Rattle.tile_table.proofs.Bits.{same-eq}
-use Rattle.tile_table.proofs.Sums.{times-append}
+use Rattle.tile_table.specs.Calls.{Claimed, TurnHad, TurnMissed, PartSeen}
+use Rattle.tile_machine.specs.Bridges.{at-map}
+use Rattle.tile_table.proofs.Bits.{same-eq, both-eq}
+use Rattle.tile_table.proofs.Sums.{times-append, pairs-append}
 
-module _ {S : Type 0} where
-  none-of : (xs : List (ℕ × S)) → is_none xs ≡ true → xs ≡ []
+is-only : (T : Type 0) (j : ℕ) (m : Bool) → slots_fit {T = T} (Holds j m) ((j, None) ∷ []) ≡ true
+is-only T j m = grind (arith, nat_tests)
+
+module _ {T : Type 0} where
+  none-of : (xs : List (ℕ × Option T)) → is_none xs ≡ true → xs ≡ []
   none-of [] e = refl
   none-of (x ∷ xs) e = grind arith
 
   -- no slot is out with an empty hand
-  pub none-out : (h : Hand) (xs : List (ℕ × S)) → h ≡ Empty → slots_fit h xs ≡ true → xs ≡ []
+  pub none-out : (h : Hand) (xs : List (ℕ × Option T)) → h ≡ Empty → slots_fit h xs ≡ true → xs ≡ []
   none-out h xs e fits = none-of xs (subst (λ g. slots_fit g xs ≡ true) e fits)
 
-  pub fits-none : (h : Hand) (xs : List (ℕ × S)) → h ≡ Empty → xs ≡ [] → slots_fit h xs ≡ true
+  pub fits-none : (h : Hand) (xs : List (ℕ × Option T)) → h ≡ Empty → xs ≡ [] → slots_fit h xs ≡ true
   fits-none h xs e nil = subst (λ g. slots_fit g xs ≡ true) (sym e) (subst (λ ys. is_none ys ≡ true) (sym nil) refl)
 
-  only-of : (j : ℕ) (xs : List (ℕ × S)) → is_only j xs ≡ true → (y : S) × (xs ≡ (j, y) ∷ [])
+  only-of : (j : ℕ) (xs : List (ℕ × Option T)) → is_only j xs ≡ true → xs ≡ (j, None) ∷ []
   only-of j [] e = absurd (grind arith)
-  only-of j (x ∷ []) e = let q : x.0 ≡ j = grind (arith, nat_tests) in (x.1, ap (λ n. (n, x.1) ∷ []) q)
-  only-of j (x ∷ y ∷ ys) e = absurd (grind (arith, nat_tests))
+  only-of j ((k, None) ∷ []) e = let q : k ≡ j = grind (arith, nat_tests) in ap (λ n. (n, None) ∷ []) q
+  only-of j ((k, Some t) ∷ xs) e = absurd (grind (arith, nat_tests))
+  only-of j ((k, None) ∷ y ∷ ys) e = absurd (grind (arith, nat_tests))
 
-  -- the slot of the place in hand is out, and no other
-  pub only-out : (h : Hand) (xs : List (ℕ × S)) (j : ℕ) (m : Bool) → h ≡ Holds j m → slots_fit h xs ≡ true → (y : S) × (xs ≡ (j, y) ∷ rest xs) × (rest xs ≡ [])
-  only-out h xs j m e fits =
-      let o = only-of j xs (subst (λ g. slots_fit g xs ≡ true) e fits) in (o.0, o.1 ∙ ap (λ z. (j, o.0) ∷ z) (sym (ap rest o.1)), ap rest o.1)
+  -- the slot of the place in hand is out, without its value, and no other
+  pub only-out : (h : Hand) (xs : List (ℕ × Option T)) (j : ℕ) (m : Bool) → h ≡ Holds j m → slots_fit h xs ≡ true → xs ≡ (j, None) ∷ []
+  only-out h xs j m e fits = only-of j xs (subst (λ g. slots_fit g xs ≡ true) e fits)
 
-  pub is-only : (j : ℕ) (m : Bool) (y : S) → slots_fit (Holds j m) ((j, y) ∷ []) ≡ true
-  is-only j m y = grind (arith, nat_tests)
+  pub fits-only : (h : Hand) (xs : List (ℕ × Option T)) (j : ℕ) (m : Bool) → h ≡ Holds j m → xs ≡ (j, None) ∷ [] → slots_fit h xs ≡ true
+  fits-only h xs j m e out = subst (λ g. slots_fit g xs ≡ true) (sym e) (subst (λ ys. slots_fit (Holds j m) ys ≡ true) (sym out) (is-only T j m))
 
 module _ {T : Type 0} where
   -- what each step of one seat leaves, as far as the seat's fields go
@@ -49,40 +53,57 @@ module _ {T : Type 0} where
     pub first : r.0.first ≡ m.0.first
     pub end : r.0.end ≡ m.0.end
     pub world : r.0.world ≡ m.0.world
-    pub slots : slots_fit r.0.hand r.1 ≡ true
 
-  stays-by : (m r x : Sat T) → r ≡ x → x.0.first ≡ m.0.first → x.0.end ≡ m.0.end → x.0.world ≡ m.0.world → slots_fit x.0.hand x.1 ≡ true → Stays m r
-  stays-by m r x e a b w s =
-      record {
-        first = ap (λ y. y.0.first) e ∙ a;
-        end = ap (λ y. y.0.end) e ∙ b;
-        world = ap (λ y. y.0.world) e ∙ w;
-        slots = subst (λ y. slots_fit y.0.hand y.1 ≡ true) (sym e) s;
-      }
+  stays-by : (m r x : Sat T) → r ≡ x → x.0.first ≡ m.0.first → x.0.end ≡ m.0.end → x.0.world ≡ m.0.world → Stays m r
+  stays-by m r x e a b w = record { first = ap (λ y. y.0.first) e ∙ a; end = ap (λ y. y.0.end) e ∙ b; world = ap (λ y. y.0.world) e ∙ w }
 
-  pub claim-stays : (i : ℕ) (m r : Sat T) (n : ℕ) → slots_fit m.0.hand m.1 ≡ true → claim_told i m n r → Stays m r
-  claim-stays i m r zero fits t = stays-by m r (with_claim m.0 i, m.1) t.0 refl refl refl fits
-  claim-stays i m r (suc by) fits t = stays-by m r (with_seen m.0 i by, m.1) t refl refl refl fits
+  fits-by : (m r x : Sat T) → r ≡ x → x.0.hand ≡ m.0.hand → x.1 ≡ m.1 → slots_fit m.0.hand m.1 ≡ true → slots_fit r.0.hand r.1 ≡ true
+  fits-by m r x e hand out fits =
+      subst (λ y. slots_fit y.0.hand y.1 ≡ true) (sym e) (subst (λ h. slots_fit h x.1 ≡ true) (sym hand) (subst (λ c. slots_fit m.0.hand c ≡ true) (sym out) fits))
+
+  pub claim-stays : (i : ℕ) (m r : Sat T) (n : ℕ) → claim_told i m n r → Stays m r
+  claim-stays i m r zero t = stays-by m r (with_claim m.0 i, m.1) t.0 refl refl refl
+  claim-stays i m r (suc by) t = stays-by m r (with_seen m.0 i by, m.1) t refl refl refl
+
+  pub claim-fits : (i : ℕ) (m r : Sat T) (n : ℕ) → slots_fit m.0.hand m.1 ≡ true → claim_told i m n r → slots_fit r.0.hand r.1 ≡ true
+  claim-fits i m r zero fits t = fits-by m r (with_claim m.0 i, m.1) t.0 refl refl fits
+  claim-fits i m r (suc by) fits t = fits-by m r (with_seen m.0 i by, m.1) t refl refl fits
 
   pub claim-mine : (i : ℕ) (m r : Sat T) (n : ℕ) → n ≡ 0 → claim_told i m n r → Claimed m.0 i Mine r.0
-  claim-mine i m r zero e t = (ap (λ y. y.0) t.0, t.1)
+  claim-mine i m r zero e t = (ap (λ y. y.0) t.0, t.1, t.2)
   claim-mine i m r (suc by) e t = absurd (omega arith)
 
   pub claim-taken : (i : ℕ) (m r : Sat T) (n : ℕ) → n ≢ 0 → claim_told i m n r → Claimed m.0 i (Taken (n - 1)) r.0
   claim-taken i m r zero ne t = absurd (ne refl)
   claim-taken i m r (suc by) ne t = ap (λ y. y.0) t ∙ ap (λ n. with_seen m.0 i n) (omega arith)
 
-  had-stays : (j : ℕ) (m r : Sat T) (b : Bool) → m.1 ≡ [] → Took m j b r → Stays m r
-  had-stays j m r b nil t =
-      stays-by m r (with_take m.0 j b, (j, Some t.tile) ∷ m.1) t.after refl refl refl (subst (λ c. slots_fit (Holds j b) ((j, Some t.tile) ∷ c) ≡ true) (sym nil) (is-only j b (Some t.tile)))
+  -- the claim that was just made
+  pub has-claim : (i : ℕ) (m r : Sat T) (n : ℕ) → n ≡ 0 → claim_told i m n r → 0 < pairs r.0.first i r.0.claims
+  has-claim i m r zero e t =
+      subst (λ y. 0 < pairs y.0.first i y.0.claims) (sym t.0)
+      (omega (arith, pairs-append m.0.first i m.0.claims ((m.0.first, i) ∷ []), both-eq m.0.first i m.0.first i refl refl))
+  has-claim i m r (suc by) e t = absurd (omega arith)
 
-  pub turn-stays : (b : Bool) (j : ℕ) (m r : Sat T) (n : ℕ) → m.0.hand ≡ Empty → slots_fit m.0.hand m.1 ≡ true → turn_told b j m n r → Stays m r
-  turn-stays false j m r zero e fits t = had-stays j m r false (none-out m.0.hand m.1 e fits) t
-  turn-stays false j m r (suc zero) e fits t = stays-by m r (with_known m.0 j, m.1) t refl refl refl fits
-  turn-stays true j m r zero e fits t = absurd t
-  turn-stays true j m r (suc zero) e fits t = had-stays j m r true (none-out m.0.hand m.1 e fits) t
-  turn-stays false j m r (suc (suc h)) e fits t = stays-by m r (with_lost m.0 j h, m.1) t.0 refl refl refl fits
-  turn-stays true j m r (suc (suc h)) e fits t = stays-by m r (with_lost m.0 j h, m.1) t.0 refl refl refl fits
+  had-stays : (j : ℕ) (m r : Sat T) (b : Bool) → Took m j b r → Stays m r
+  had-stays j m r b t = stays-by m r (with_take m.0 j b, (j, Some t.tile) ∷ m.1) t.after refl refl refl
+
+  pub turn-stays : (b : Bool) (j : ℕ) (m r : Sat T) (n : ℕ) → turn_told b j m n r → Stays m r
+  turn-stays false j m r zero t = had-stays j m r false t
+  turn-stays false j m r (suc zero) t = stays-by m r (with_known m.0 j, m.1) t refl refl refl
+  turn-stays true j m r zero t = absurd t
+  turn-stays true j m r (suc zero) t = had-stays j m r true t
+  turn-stays false j m r (suc (suc h)) t = stays-by m r (with_lost m.0 j h, m.1) t.0 refl refl refl
+  turn-stays true j m r (suc (suc h)) t = stays-by m r (with_lost m.0 j h, m.1) t.0 refl refl refl
+
+  pub lost-fits : (j h : ℕ) (m r : Sat T) → slots_fit m.0.hand m.1 ≡ true → LostTo m j h r → slots_fit r.0.hand r.1 ≡ true
+  lost-fits j h m r fits t = fits-by m r (with_lost m.0 j h, m.1) t.0 refl refl fits
+
+  pub read-fits : (j : ℕ) (m r : Sat T) → slots_fit m.0.hand m.1 ≡ true → r ≡ (with_known m.0 j, m.1) → slots_fit r.0.hand r.1 ≡ true
+  read-fits j m r fits t = fits-by m r (with_known m.0 j, m.1) t refl refl fits
+
+  -- the slot is out, without its value, of a turn that was had
+  pub took-fits : (j : ℕ) (b : Bool) (m r : Sat T) (v : View T) (xs : List (ℕ × Option T)) → Took m j b r → v ≡ r.0 → xs ≡ (j, None) ∷ [] → slots_fit v.hand xs ≡ true
+  took-fits j b m r v xs t e out = fits-only v.hand xs j b (ap (λ u. u.hand) e ∙ ap (λ y. y.0.hand) t.after) out
 
   -- the word was free, with the spelling that was tried
   pub turn-had : (b : Bool) (j : ℕ) (m r : Sat T) (n : ℕ) → n ≡ bit b → turn_told b j m n r → Took m j b r
@@ -156,4 +177,19 @@ module _ {X T Q : Type 0} where
             λ p nil. marked ∙ t.own_claim
             (subst (λ n. 0 < pairs n j m.0.claims) (sym (ap (λ u. u.first) e)) (subst (λ xs. 0 < pairs v.first j xs) (sym (ap (λ u. u.claims) e)) p))
             (ap (times j) (ap (λ u. u.marks) e) ∙ nil);
+      }
+
+  -- the part of a tile whose turn was had
+  pub part-seen : {R : Type 0} (readable : T → R) (v w : View T) (j : ℕ) (turn : Turn X T Q) (part : R) → TurnHad v j turn w → part ≡ readable (turn_tile turn) → PartSeen readable v j part
+  part-seen readable v w j turn part had is =
+      let m = turn_marked turn in
+      let e = had.view in
+      record {
+        marked = m;
+        stands =
+            subst (λ p. At (map readable (tiles_by m v.world v.goal)) j p) (sym is)
+            (at-map readable (tiles_by m v.world v.goal) j (turn_tile turn)
+            (subst (λ ts. At (tiles_by m ts v.goal) j (turn_tile turn)) (ap (λ u. u.world) e)
+            (subst (λ ts. At (tiles_by m w.world ts) j (turn_tile turn)) (ap (λ u. u.goal) e)
+            (subst (λ n. At (tiles_by m w.world w.goal) n (turn_tile turn)) had.place had.turn.stands))));
       }

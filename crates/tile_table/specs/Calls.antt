@@ -1,27 +1,45 @@
 -- what each call answers, and the view that it leaves
-use Rattle.std.specs.Prelude.{◌≡◌, ℕ, ◌<◌, Bool, true, false, List, length, nat_lt}
+use Rattle.std.specs.Prelude.{◌≡◌, ℕ, ◌<◌, Bool, true, false, List, length, map, nat_lt, Result, Ok, Err}
 use Rattle.tile_machine.specs.At.{At}
 use Rattle.tile_table.specs.declared.view.View.{View}
 use Rattle.tile_table.specs.declared.answer.Claim.{Claim}
 use Rattle.tile_table.specs.declared.answer.Claim.TheVariants.{Mine, Taken}
+use Rattle.tile_table.specs.declared.answer.Unseen.{Unseen}
+use Rattle.tile_table.specs.declared.answer.Unseen.TheVariants.{Busy, OutOfMemory}
 use Rattle.tile_table.specs.declared.seat.Turn.{Turn}
 use Rattle.tile_table.specs.declared.seat.Closed.{Closed}
 use Rattle.tile_table.specs.Counts.{times, pairs}
-use Rattle.tile_table.specs.Views.{tiles_by, with_claim, with_seen, with_take, knowing, with_lost, IsAnother}
+use Rattle.tile_table.specs.Views.{tiles_by, with_claim, with_seen, with_take, with_no_hand, knowing, with_lost, IsAnother}
 use Rattle.tile_table.specs.Seats.{turn_place, turn_marked, HasTurn}
 
 module _ {T : Type 0} where
-  -- a claim: the seat has it now, of a place that it hasn't marked, or it saw who has
+  -- a claim: the seat has it now, of a place that it neither claimed nor marked before, or it saw who has
   abbrev pub Claimed : View T → ℕ → Claim → View T → Type 0
-  Claimed before i Mine after = (after ≡ with_claim before i) × (times i before.marks ≡ 0)
+  Claimed before i Mine after = (after ≡ with_claim before i) × (times i before.marks ≡ 0) × ((by : ℕ) → pairs by i before.claims ≡ 0)
   Claimed before i (Taken by) after = after ≡ with_seen before i by
 
-  -- a turn that wasn't had: another worker held it when its word was read
+  -- a turn that wasn't had: this worker's number stood in its word
   pub record TurnMissed (before : View T) (j holder : ℕ) (after : View T) : Type 0 where
     -- whether the word had been read as "free, marked" just before
     pub knew : Bool
     pub view : after ≡ with_lost (knowing knew before j) j holder
     pub another : IsAnother holder before
+
+  -- the turn was had, for a tile that was marked or not, and given back
+  pub record TurnHadOnce (before : View T) (j : ℕ) (after : View T) : Type 0 where
+    pub marked : Bool
+    pub view : after ≡ with_no_hand (with_take (knowing marked before j) j marked)
+
+  -- a look at the tile of place j: its turn was had, or another worker held it
+  abbrev pub LookedAt : {Q : Type 0} → Result Q Unseen → View T → ℕ → View T → Type 0
+  LookedAt (Ok part) before j after = TurnHadOnce before j after
+  LookedAt (Err OutOfMemory) before j after = TurnHadOnce before j after
+  LookedAt (Err (Busy holder)) before j after = TurnMissed before j holder after
+
+  -- what a look shows: the readable part of the world's tile, or of the finished one
+  pub record PartSeen {Q : Type 0} (readable : T → Q) (before : View T) (j : ℕ) (part : Q) : Type 0 where
+    pub marked : Bool
+    pub stands : At (map readable (tiles_by marked before.world before.goal)) j part
 
 module _ {X T Q : Type 0} where
   -- a turn that was had

@@ -1,6 +1,6 @@
 -- what each atomic step tells its seat: of the seat before it, the number found in the word, and the seat after it
-use Rattle.std.specs.Prelude.{◌≡◌, ℕ, zero, suc, ◌+◌, ◌*◌, ◌<◌, Option, Some, Bool, true, false, ◌∷◌}
-use Rattle.atomic_table.specs.Table.{Me, rest}
+use Rattle.std.specs.Prelude.{◌≡◌, ℕ, zero, suc, ◌+◌, ◌*◌, ◌<◌, Option, Some, None, Bool, true, false, [], ◌∷◌}
+use Rattle.atomic_table.specs.Table.{Me}
 use Rattle.tile_machine.specs.At.{At}
 use Rattle.tile_table.specs.declared.view.View.{View}
 use Rattle.tile_table.specs.Counts.{times, pairs}
@@ -11,9 +11,9 @@ abbrev pub Sat : Type 0 → Type 0
 Sat T = Me (Option T) (View T)
 
 module _ {T : Type 0} where
-  -- at no claim the seat has claimed the place, which it hasn't marked; else it saw who has
+  -- at no claim the seat has claimed the place, which it neither claimed nor marked before; else it saw who has
   abbrev pub claim_told : ℕ → Sat T → ℕ → Sat T → Type 0
-  claim_told i m zero r = (r ≡ (with_claim m.0 i, m.1)) × (times i m.0.marks ≡ 0)
+  claim_told i m zero r = (r ≡ (with_claim m.0 i, m.1)) × (times i m.0.marks ≡ 0) × ((by : ℕ) → pairs by i m.0.claims ≡ 0)
   claim_told i m (suc by) r = r ≡ (with_seen m.0 i by, m.1)
 
   -- the exchange on the claim word of a place
@@ -46,10 +46,10 @@ module _ {T : Type 0} where
   abbrev pub tried : Bool → ℕ → Sat T → ℕ → Sat T → Type 0
   tried marked word m found r = (j : ℕ) → word ≡ 3 * j + 1 → turn_told marked j m found r
 
-  -- the store to the mark word of a place
+  -- the store to the mark word of a place, whose value is out of its slot
   abbrev pub marked : ℕ → Sat T → Sat T → Type 0
-  marked word m r = (i : ℕ) → word ≡ 3 * i + 2 → r ≡ (with_mark m.0 i, m.1)
+  marked word m r = (i : ℕ) → word ≡ 3 * i + 2 → (r ≡ (with_mark m.0 i, m.1)) × (m.1 ≡ (i, None) ∷ [])
 
-  -- the store to the turn word of the place in hand
+  -- the store to the turn word of the place in hand, whose value is in its slot
   abbrev pub freed : Sat T → Sat T → Type 0
-  freed m r = r ≡ (with_no_hand m.0, rest m.1)
+  freed m r = (r ≡ (with_no_hand m.0, [])) × ((j : ℕ) × (tile : T) × (m.1 ≡ (j, Some tile) ∷ []))

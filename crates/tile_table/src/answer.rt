@@ -9,8 +9,17 @@ pub enum Claim {
     Taken { by: u64 },
 }
 
-/// Another worker held the turn.
+/// Another worker held the turn: its number stood in the turn's word.
 #[derive(Clone, Copy, Debug, PartialEq, Eq)]
 pub struct Busy {
     pub holder: u64,
+}
+
+/// Why a part wasn't seen.
+#[derive(Clone, Copy, Debug, PartialEq, Eq)]
+pub enum Unseen {
+    /// Another worker held the turn.
+    Busy { holder: u64 },
+    /// There was no memory for the part.
+    OutOfMemory,
 }

@@ -1,6 +1,8 @@
 //! Claims, and what a seat says of itself.
 
 ghost use Rattle.std.specs.Prelude.{◌≡◌, ℕ, ◌<◌, length};
+ghost use Rattle.tile_table.specs.declared.answer.Claim.{Claim};
+ghost use Rattle.tile_table.specs.Counts.{pairs};
 ghost use Rattle.tile_table.specs.Seats.{view, seat_name, IsAt};
 ghost use Rattle.tile_table.specs.Calls.{Claimed};
 
@@ -33,6 +35,7 @@ impl<P: Phase> TileTable<P> {
         requires place { i < length (view seat.old).world }
         ensures table { seat_name seat.new ≡ seat_name seat.old }
         ensures view { Claimed (view seat.old) i result (view seat.new) }
+        ensures mine { result ≡ Claim.Mine → 0 < pairs (view seat.new).first i (view seat.new).claims }
     {
         let number = seat.number;
         let shared = &self.table.shared;

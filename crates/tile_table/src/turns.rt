@@ -1,17 +1,20 @@
-//! Turns are taken, given back and finished.
+//! Turns are taken, given back and finished, and the tiles of others are looked at.
 
-ghost use Rattle.std.specs.Prelude.{◌≡◌, ℕ, ◌<◌, [], ◌∷◌, length, Some, IfOk, IfErr};
+ghost use Rattle.std.specs.Prelude.{◌≡◌, ℕ, ◌<◌, [], ◌∷◌, length, Some, None, IfOk, IfErr};
 ghost use Rattle.tile_machine.specs.At.{At};
 ghost use Rattle.tile_table.specs.declared.view.Hand.{Hand};
 ghost use Rattle.tile_table.specs.Counts.{bit, times, pairs};
 ghost use Rattle.tile_table.specs.Views.{with_no_hand, with_mark};
-ghost use Rattle.tile_table.specs.Seats.{view, seat_name, IsAt, turn_place, turn_tile, turn_marked, HasTurn};
-ghost use Rattle.tile_table.specs.Calls.{TurnHad, TurnMissed};
+ghost use Rattle.tile_table.specs.Seats.{view, table_name, seat_name, IsAt, turn_place, turn_tile, turn_marked, HasTurn};
+ghost use Rattle.tile_table.specs.Calls.{TurnHad, TurnMissed, PartSeen, LookedAt};
 
-use crate::answer::Busy;
+use crate::answer::{Busy, Unseen};
 use crate::plays::{FreeTurn, SetMark, TryMarked, TryUnmarked};
 use crate::seat::{Seat, Turn};
 use crate::table::TileTable;
+use crate::view::View;
+use atomic_table::Seat as Place;
+use std::alloc::Global;
 use tile_machine::phase::Phase;
 
 /// The number that a turn word has where the turn is free.
@@ -37,16 +40,22 @@ impl<P: Phase> Turn<P> {
 
 impl<P: Phase> TileTable<P> {
     // The tile of the slot that the seat has just got.
-    fn brought_out(&self, seat: &mut Seat<P>, j: u64, marked: bool) -> Turn<P>
-        requires table { IsAt self.now seat.old }
-        requires slot { (tile : _) × (seat.old.seat.me.1 ≡ (j, Some tile) ∷ []) }
-        ensures table { seat_name seat.new ≡ seat_name seat.old }
-        ensures view { view seat.new ≡ view seat.old }
-        ensures tile { seat.old.seat.me.1 ≡ (j, Some (turn_tile result)) ∷ [] }
+    fn brought_out(
+        &self,
+        place: &mut Place<Option<P::Tile>, View<P::Tile>>,
+        j: u64,
+        marked: bool,
+    ) -> Turn<P>
+        requires table { place.old.table_id ≡ table_name self.now }
+        requires slot { (tile : _) × (place.old.me.1 ≡ (j, Some tile) ∷ []) }
+        ensures table { place.new.table_id ≡ place.old.table_id }
+        ensures view { place.new.me.0 ≡ place.old.me.0 }
+        ensures out { place.new.me.1 ≡ (j, None) ∷ [] }
+        ensures tile { place.old.me.1 ≡ (j, Some (turn_tile result)) ∷ [] }
         ensures place { turn_place result ≡ j }
         ensures marked { turn_marked result ≡ marked }
     {
-        let Some(tile) = self.table.shared.exchange(&mut seat.seat, j as usize, None) else {
+        let Some(tile) = self.table.shared.exchange(place, j as usize, None) else {
             unreachable!()
         };
         Turn {
@@ -56,9 +65,8 @@ impl<P: Phase> TileTable<P> {
         }
     }
 
-    /// Takes the turn of place `j`, with its tile. `Busy` says who held the turn when its word was read: a worker whose number
-    /// isn't in the seat's range. So a seat with all the numbers is never told so.
-    pub fn take(&self, seat: &mut Seat<P>, j: u64) -> Result<Turn<P>, Busy>
+    // The turn of place `j`, with its tile.
+    fn reached(&self, seat: &mut Seat<P>, j: u64) -> Result<Turn<P>, Busy>
         requires table { IsAt self.now seat.old }
         requires hand { (view seat.old).hand ≡ Hand.Empty }
         requires place { j < length (view seat.old).world }
@@ -71,7 +79,7 @@ impl<P: Phase> TileTable<P> {
         let shared = &self.table.shared;
         let found = shared.compare_exchange::<TryUnmarked>(&mut seat.seat, word, 0, number + 2);
         if found == 0 {
-            return Ok(self.brought_out(seat, j, false));
+            return Ok(self.brought_out(&mut seat.seat, j, false));
         }
         if found > 1 {
             return Err(Busy { holder: found - 2 });
@@ -80,7 +88,52 @@ impl<P: Phase> TileTable<P> {
         if again > 1 {
             return Err(Busy { holder: again - 2 });
         }
-        Ok(self.brought_out(seat, j, true))
+        Ok(self.brought_out(&mut seat.seat, j, true))
+    }
+
+    /// Takes the turn of place `j`, which the seat has claimed, with its whole tile. `Busy` names a worker whose number isn't in
+    /// the seat's range. So a seat with all the numbers is never told so.
+    pub fn take(&self, seat: &mut Seat<P>, j: u64) -> Result<Turn<P>, Busy>
+        requires table { IsAt self.now seat.old }
+        requires hand { (view seat.old).hand ≡ Hand.Empty }
+        requires place { j < length (view seat.old).world }
+        requires claimed { 0 < pairs (view seat.old).first j (view seat.old).claims }
+        ensures table { seat_name seat.new ≡ seat_name seat.old }
+        ensures turn { IfOk result (λ turn. TurnHad (view seat.old) j turn (view seat.new)) }
+        ensures busy { IfErr result (λ busy. TurnMissed (view seat.old) j busy.holder (view seat.new)) }
+    {
+        self.reached(seat, j)
+    }
+
+    /// The part of the tile at place `j` that the phase lets others read. Its turn is taken for that, and given back. It shows the
+    /// same of the world's tile and of the finished one, where the phase keeps it as it is.
+    pub fn look(
+        &self,
+        alloc: Global,
+        phase: &P,
+        seat: &mut Seat<P>,
+        j: u64,
+    ) -> Result<P::Part, Unseen>
+        requires table { IsAt self.now seat.old }
+        requires hand { (view seat.old).hand ≡ Hand.Empty }
+        requires place { j < length (view seat.old).world }
+        ensures table { seat_name seat.new ≡ seat_name seat.old }
+        ensures seen { IfOk result (λ part. PartSeen (P.readable phase.now) (view seat.old) j part) }
+        ensures view { LookedAt result (view seat.old) j (view seat.new) }
+    {
+        match self.reached(seat, j) {
+            Ok(turn) => {
+                let part = phase.part(alloc, turn.tile());
+                self.give(seat, turn);
+                match part {
+                    Ok(part) => Ok(part),
+                    Err(_) => Err(Unseen::OutOfMemory),
+                }
+            }
+            Err(busy) => Err(Unseen::Busy {
+                holder: busy.holder,
+            }),
+        }
     }
 
     /// Gives a turn back, with its tile.

@@ -1,10 +1,10 @@
 use Rattle.std.proofs.Common.{sym, ◌∙◌, subst}
 use Rattle.tile_machine.specs.At.{At}
-use Rattle.tile_machine.proofs.Places.{at_read}
+use Rattle.tile_machine.specs.Bridges.{at_read}
 use Rattle.phase_run.proofs.rest.finished_tile.Goals as goal
 
-pub rewrite-requires : goal.rewrite-requires
-rewrite-requires g c = (
+pub rewrite-requires-clause-world : goal.rewrite-requires-clause-world
+rewrite-requires-clause-world g c = (
   c.args.world.now.value.items,
   c.requires.fits,
   sym c.requires.parts,

@@ -1,10 +1,17 @@
-use Rattle.std.proofs.Common.{ap, ◌∙◌}
+use Rattle.std.proofs.Common.{◌∙◌, refl}
 use Rattle.tile_table.specs.Seats.{view}
-use Rattle.phase_run.proofs.Looking.{reads-part}
+use Rattle.phase_run.proofs.Looking.{begins-trying, tries-again, reads-part}
 use Rattle.phase_run.proofs.seat_parts.part_of.Goals as goal
 
-pub returns-in-Ok-part-clause-part : goal.returns-in-Ok-part-clause-part
-returns-in-Ok-part-clause-part g c ps shown =
-    let readable = g.P.Phase.readable c.args.phase.now in
-    reads-part readable (view c.args.seat.now) (view c.turn_of.new.seat) c.args.j c.in-Ok.turn c.in-Ok-part.part c.in-Ok.ensures.turn
-    (c.in-Ok-part.ensures ∙ ap readable c.tile.ensures) ps shown
+pub loop-tried-init : goal.loop-tried-init
+loop-tried-init g c = record { table = refl; trying = begins-trying (view c.args.seat.now) c.args.j c.requires.hand }
+
+pub loop-tried-preserved : goal.loop-tried-preserved
+loop-tried-preserved g c =
+    let here = rw c.in-Err-Busy.field-0-is at c.in-Err-Busy.ensures in
+    record {
+      table = c.look.ensures.table ∙ c.loop-tried.invariant.table;
+      trying =
+          tries-again (view c.args.seat.now) c.args.j c.in-Err-Busy.by c.loop-tried.tried (view c.loop-tried.seat) (view c.look.new.seat) c.loop-tried.holder
+          c.loop-tried.invariant.trying here.view;
+    }

@@ -1,6 +1,6 @@
 use Rattle.tile_table.specs.Seats.{view}
 use Rattle.phase_run.specs.Looks.{Loses}
-use Rattle.phase_run.specs.Workers.{Worked, GoesOver}
+use Rattle.phase_run.specs.Workers.{Worked, Waiting, GoesOver}
 use Rattle.phase_run.proofs.worker.go_over.Given as goal
 
 abbrev pub invariant-loop-i : goal.invariant-loop-i
@@ -8,5 +8,6 @@ invariant-loop-i g l =
     record {
       worked : Worked l.fn.seat l.seat;
       loses : Loses (view l.fn.seat) (view l.seat);
+      waiting : Waiting (view l.seat) l.later.items;
       over : GoesOver l.from l.i (view l.fn.seat) (view l.seat);
     }

@@ -1,6 +1,6 @@
 use Rattle.std.proofs.Common.{◌≡◌, length, refl, ap, sym, ◌∙◌, arith}
 use Rattle.tile_table.proofs.Moves.{claims}
-use Rattle.tile_table.proofs.Told.{claim-stays, claim-mine, claim-taken}
+use Rattle.tile_table.proofs.Told.{claim-stays, claim-fits, claim-mine, claim-taken, has-claim}
 use Rattle.tile_table.proofs.table.TileTable.claim.Goals as goal
 
 pub compare_exchange-found-requires : goal.compare_exchange-found-requires
@@ -18,14 +18,14 @@ invariant_of-seat g c =
     let seat = c.args.seat.now in
     let new = c.compare_exchange-found.new.seat in
     let told = c.compare_exchange-found.ensures in
-    let stays = claim-stays c.args.i seat.seat.me new.me c.compare_exchange-found.result seat.slots (told.2 c.args.i refl) in
+    let stays = claim-stays c.args.i seat.seat.me new.me c.compare_exchange-found.result (told.2 c.args.i refl) in
     record {
       numbered = seat.numbered ∙ sym stays.first;
       live = omega (arith, seat.live, stays.end);
       few = omega (arith, seat.few, stays.end);
       counted = seat.counted ∙ sym (ap length stays.world);
       placed = ap (λ n. n.slots) told.0 ∙ seat.placed;
-      slots = stays.slots;
+      slots = claim-fits c.args.i seat.seat.me new.me c.compare_exchange-found.result seat.slots (told.2 c.args.i refl);
     }
 
 pub returns-then-found-eq0-clause-view : goal.returns-then-found-eq0-clause-view
@@ -35,3 +35,7 @@ returns-then-found-eq0-clause-view g c =
 pub returns-else-found-eq0-clause-view : goal.returns-else-found-eq0-clause-view
 returns-else-found-eq0-clause-view g c =
     claim-taken c.args.i c.args.seat.now.seat.me c.compare_exchange-found.new.seat.me c.compare_exchange-found.result c.if-found-eq0.false (c.compare_exchange-found.ensures.2 c.args.i refl)
+
+pub returns-then-found-eq0-clause-mine : goal.returns-then-found-eq0-clause-mine
+returns-then-found-eq0-clause-mine g c mine =
+    has-claim c.args.i c.args.seat.now.seat.me c.compare_exchange-found.new.seat.me c.compare_exchange-found.result c.if-found-eq0.true (c.compare_exchange-found.ensures.2 c.args.i refl)

@@ -1,0 +1,10 @@
+//! Small phases, for tests and to read: one whose tiles need all others, and one whose tiles need their two neighbours.
+#![tactic(auto)]
+
+mod fence;
+mod sums;
+#[cfg(test)]
+mod tests;
+
+pub use fence::{Fence, Post};
+pub use sums::{Summand, Sums, summands};
