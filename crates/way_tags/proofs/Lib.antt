@@ -2,3 +2,4 @@ pub mod Words
 pub mod Keys
 pub mod PlaceLemmas
 pub mod Deciding
+mod WorkedRows
