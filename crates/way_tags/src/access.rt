@@ -9,11 +9,11 @@ ghost use Rattle.way_tags.specs.KnownKeys.{ArePlaces, known_key};
 use crate::found::{Places, value_at};
 use crate::known_keys::{ACCESS, BICYCLE_KEY, BUS_KEY, FOOT, HGV, KEY_COUNT, MOTORCAR, MOTOR_VEHICLE, PSV, VEHICLE};
 use crate::modes::{ALL, AUTO, BICYCLE, BUS, MOTOR_VEHICLES, PEDESTRIAN, TRUCK, VEHICLES, overridden};
-use osm_model::Tags;
+use osm_model::TagsView;
 
 /// The modes after the tags of access, where these modes are the default: from the key that is tried last for
 /// a mode to that which is tried first.
-pub(crate) fn decided_modes(tags: &Tags, places: &Places, default: u16) -> u16
+pub(crate) fn decided_modes(tags: &TagsView<'_>, places: &Places, default: u16) -> u16
     requires { ArePlaces tags.now 0 places.now }
     ensures { (f : Mode → Bool) → default ≡ word_of f → result ≡ word_of (λ mode. decided tags.now (keys_of mode) (f mode)) }
 {
@@ -30,7 +30,7 @@ pub(crate) fn decided_modes(tags: &Tags, places: &Places, default: u16) -> u16
 }
 
 /// What the known key of that number says: that its modes may, that they may not, or nothing.
-fn verdict(tags: &Tags, places: &Places, number: usize) -> Option<bool>
+fn verdict(tags: &TagsView<'_>, places: &Places, number: usize) -> Option<bool>
     requires places { ArePlaces tags.now 0 places.now }
     requires known { number < KEY_COUNT }
     ensures { result ≡ option_and_then meaning (value_of (known_key number) tags.now) }

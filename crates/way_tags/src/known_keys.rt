@@ -27,9 +27,12 @@ pub(crate) const REF: usize = 18;
 /// How many keys are known. As a number it stands for every other key.
 pub(crate) const KEY_COUNT: usize = 19;
 
+/// One slot for each known key, and one for every other key.
+pub(crate) const SLOTS: usize = KEY_COUNT + 1;
+
 /// The number of a key. It is compared with one known key alone.
 pub(crate) fn key_number(key: &str) -> usize
-    ensures within { result < KEY_COUNT + 1 }
+    ensures within { result < SLOTS }
     ensures number { (k : ℕ) → k < KEY_COUNT → bytes_eq key.now (known_key k) ≡ (k == result) }
 {
     let number = likely_key(key);
@@ -43,7 +46,7 @@ pub(crate) fn key_number(key: &str) -> usize
 /// The number of the one known key that a text may be, by its length and one byte.
 fn likely_key(key: &str) -> usize
     ensures number { result ≡ likely_number key.now }
-    ensures within { result < KEY_COUNT + 1 }
+    ensures within { result < SLOTS }
 {
     let bytes = key.as_bytes();
     match bytes.len() {

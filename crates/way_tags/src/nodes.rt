@@ -9,10 +9,10 @@ use crate::found::{places_of, value_at};
 use crate::highways::modes_at_barrier;
 use crate::known_keys::BARRIER;
 use crate::modes::ALL;
-use osm_model::Tags;
+use osm_model::TagsView;
 
 /// Whether a node is a barrier.
-pub fn is_barrier(tags: &Tags) -> bool
+pub fn is_barrier(tags: &TagsView<'_>) -> bool
     ensures { result ≡ is_barrier_node tags.now }
 {
     if tags.is_empty() {
@@ -25,7 +25,7 @@ pub fn is_barrier(tags: &Tags) -> bool
 }
 
 /// The modes that may pass a node, as bits: all where it is no barrier.
-pub fn node_access(tags: &Tags) -> u16
+pub fn node_access(tags: &TagsView<'_>) -> u16
     ensures word { result ≡ node_modes tags.now }
     ensures modes { (mode : Mode) → HasMode result mode ↔ PassesNode tags.now mode }
     ensures within { bit_and result ALL ≡ result }

@@ -15,10 +15,10 @@ use crate::found::{Places, places_of, value_at};
 use crate::highways::{Road, road_of};
 use crate::known_keys::{AREA, HIGHWAY, JUNCTION, KEY_COUNT, ONEWAY, ONEWAY_BICYCLE, ONEWAY_BUS, ONEWAY_PSV};
 use crate::modes::{ALL, BICYCLE, BUS, PEDESTRIAN};
-use osm_model::Tags;
+use osm_model::TagsView;
 
 /// The class of a way, from 0, motorway, to 7. A way without a class is no road.
-pub fn class_of(tags: &Tags) -> Option<u8>
+pub fn class_of(tags: &TagsView<'_>) -> Option<u8>
     ensures { result ≡ road_class tags.now }
 {
     match road(tags, &places_of(tags)) {
@@ -28,14 +28,14 @@ pub fn class_of(tags: &Tags) -> Option<u8>
 }
 
 /// In which directions a way is used.
-pub fn oneway_of(tags: &Tags) -> Oneway
+pub fn oneway_of(tags: &TagsView<'_>) -> Oneway
     ensures { result ≡ oneway_by_tags tags.now }
 {
     oneway(tags, &places_of(tags))
 }
 
 /// The modes that may use a way in a direction, as bits: none where the way is no road.
-pub fn access_of(tags: &Tags, direction: Dir) -> u16
+pub fn access_of(tags: &TagsView<'_>, direction: Dir) -> u16
     ensures word { result ≡ road_access tags.now direction }
     ensures modes { (mode : Mode) → HasMode result mode ↔ Permits tags.now direction mode }
     ensures within { bit_and result ALL ≡ result }
@@ -46,7 +46,7 @@ pub fn access_of(tags: &Tags, direction: Dir) -> u16
 }
 
 /// The road that a way is.
-fn road(tags: &Tags, places: &Places) -> Option<Road>
+fn road(tags: &TagsView<'_>, places: &Places) -> Option<Road>
     requires { ArePlaces tags.now 0 places.now }
     ensures { result ≡ option_map (λ row. record { class = row.class; modes = word_of (is_listed row.modes) }) (road_row tags.now) }
 {
@@ -60,7 +60,7 @@ fn road(tags: &Tags, places: &Places) -> Option<Road>
 }
 
 /// The modes to which a road is open in the directions in which it is used.
-fn open_modes(tags: &Tags, places: &Places) -> u16
+fn open_modes(tags: &TagsView<'_>, places: &Places) -> u16
     requires { ArePlaces tags.now 0 places.now }
     ensures { result ≡ word_of (is_open tags.now) }
 {
@@ -71,7 +71,7 @@ fn open_modes(tags: &Tags, places: &Places) -> u16
 }
 
 /// The modes that may go along a way in a direction, if it is open to them.
-fn modes_along(tags: &Tags, places: &Places, direction: Dir) -> u16
+fn modes_along(tags: &TagsView<'_>, places: &Places, direction: Dir) -> u16
     requires { ArePlaces tags.now 0 places.now }
     ensures { result ≡ word_of (λ mode. is_along (oneway_by_tags tags.now) direction || is_exempt tags.now mode) }
 {
@@ -83,7 +83,7 @@ fn modes_along(tags: &Tags, places: &Places, direction: Dir) -> u16
 }
 
 /// In which directions a way is used, by the first rule that holds.
-fn oneway(tags: &Tags, places: &Places) -> Oneway
+fn oneway(tags: &TagsView<'_>, places: &Places) -> Oneway
     requires { ArePlaces tags.now 0 places.now }
     ensures { result ≡ oneway_by_tags tags.now }
 {
@@ -96,7 +96,7 @@ fn oneway(tags: &Tags, places: &Places) -> Oneway
 }
 
 /// In which directions a way is used of which the key `oneway` says nothing.
-fn oneway_otherwise(tags: &Tags, places: &Places) -> Oneway
+fn oneway_otherwise(tags: &TagsView<'_>, places: &Places) -> Oneway
     requires { ArePlaces tags.now 0 places.now }
     ensures { result ≡ (if says_one_of tags.now (codes "junction") (codes "roundabout" ∷ codes "circular" ∷ []) then ways.Forward else if says_one_of tags.now (codes "highway") (codes "motorway" ∷ []) then ways.Forward else ways.Both) }
 {
@@ -122,7 +122,7 @@ fn along(oneway: Oneway, direction: Dir) -> bool
 }
 
 /// The modes that needn't heed that a way is used in one direction.
-fn exempt_modes(tags: &Tags, places: &Places) -> u16
+fn exempt_modes(tags: &TagsView<'_>, places: &Places) -> u16
     requires { ArePlaces tags.now 0 places.now }
     ensures { result ≡ word_of (is_exempt tags.now) }
 {
@@ -140,7 +140,7 @@ fn exempt_modes(tags: &Tags, places: &Places) -> u16
 }
 
 /// Whether the known key of that number is there with that value.
-fn says(tags: &Tags, places: &Places, number: usize, value: &str) -> bool
+fn says(tags: &TagsView<'_>, places: &Places, number: usize, value: &str) -> bool
     requires places { ArePlaces tags.now 0 places.now }
     requires known { number < KEY_COUNT }
     ensures { result ≡ says_one_of tags.now (known_key number) (value.now ∷ []) }

@@ -11,18 +11,18 @@ pub loop-i-init : goal.loop-i-init
 loop-i-init c = record {
   within = omega arith;
   long = refl;
-  found = places_none c.as_slice-list.result.now (length c.as_slice-list.result.now) (replicate 20 (length c.as_slice-list.result.now)) refl (λ k h. get_or-replicate 20 k (length c.as_slice-list.result.now) 0 (omega (arith, h)));
+  found = places_none c.args.tags.now c.len-count.result (replicate 20 c.len-count.result) c.len-count.ensures (λ k h. get_or-replicate 20 k c.len-count.result 0 (omega (arith, h)));
 }
 
 pub loop-i-preserved : goal.loop-i-preserved
 loop-i-preserved c =
-    let tag : Tag = c.index-list-i.result in
-    let here : c.as_str.result.now ≡ (get_or c.as_slice-list.result.now (c.loop-i.i - 1) tag).key = c.as_str.ensures.value in
+    let tag : Tag = c.at.result in
+    let here : c.key.result.now ≡ (get_or c.args.tags.now (c.loop-i.i - 1) tag).key = c.key.ensures ∙ ap (λ (t : Tag). t.key) c.at.ensures in
     let back : c.loop-i.i ≡ c.loop-i.i - 1 + 1 = omega arith in
     record {
       within = omega arith;
       long = length-set c.loop-i.places c.key_number.result (c.loop-i.i - 1) ∙ c.loop-i.invariant.long;
-      found = places_more c.as_slice-list.result.now (c.loop-i.i - 1) c.loop-i.places c.key_number.result tag (omega arith) c.loop-i.invariant.long
+      found = places_more c.args.tags.now (c.loop-i.i - 1) c.loop-i.places c.key_number.result tag (omega arith) c.loop-i.invariant.long
       (λ k h. ap (λ key. bytes_eq key (known_key k)) (sym here) ∙ c.key_number.ensures.number k h)
-      (subst (λ n. ArePlaces c.as_slice-list.result.now n c.loop-i.places) back c.loop-i.invariant.found);
+      (subst (λ n. ArePlaces c.args.tags.now n c.loop-i.places) back c.loop-i.invariant.found);
     }
