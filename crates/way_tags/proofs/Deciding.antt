@@ -52,11 +52,12 @@ passed_by_value tags value modes there other e =
 
 -- the test of permission is the permission
 pub permits_tested : (tags : List Tag) (direction : Dir) (mode : Mode) → (is_permitted tags direction mode ≡ true) ↔ Permits tags direction mode
-permits_tested tags direction mode =
-    (λ h.
-        let parts : (is_open tags mode ≡ true) × ((is_along (oneway_by_tags tags) direction || is_exempt tags mode) ≡ true) = and_parts (is_open tags mode) (is_along (oneway_by_tags tags) direction || is_exempt tags mode) h in
-        record { open_to = parts.0; along = or_cases (is_along (oneway_by_tags tags) direction) (is_exempt tags mode) parts.1 },
-     λ h. and_from (is_open tags mode) (is_along (oneway_by_tags tags) direction || is_exempt tags mode) h.open_to (goes h.along))
+permits_tested tags direction mode = (
+  λ h.
+      let parts : (is_open tags mode ≡ true) × ((is_along (oneway_by_tags tags) direction || is_exempt tags mode) ≡ true) = and_parts (is_open tags mode) (is_along (oneway_by_tags tags) direction || is_exempt tags mode) h in
+      record { open_to = parts.0; along = or_cases (is_along (oneway_by_tags tags) direction) (is_exempt tags mode) parts.1 },
+  λ h. and_from (is_open tags mode) (is_along (oneway_by_tags tags) direction || is_exempt tags mode) h.open_to (goes h.along),
+)
   where
     goes : IsTrue (is_along (oneway_by_tags tags) direction) ⊎ IsTrue (is_exempt tags mode) → (is_along (oneway_by_tags tags) direction || is_exempt tags mode) ≡ true
     goes (inl h) = or_left (is_along (oneway_by_tags tags) direction) (is_exempt tags mode) h

@@ -71,6 +71,7 @@ within_all f = both_words f (λ mode. true) ∙ keeps (f auto) (f pedestrian) (f
     one : (b : Bool) → (b && true) ≡ b
     one true = refl
     one false = refl
+
     keeps : (a p b t u : Bool) → set_of (a && true) (p && true) (b && true) (t && true) (u && true) ≡ set_of a p b t u
     keeps a p b t u = simp (one a, one p, one b, one t, one u)
 

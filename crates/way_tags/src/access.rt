@@ -7,8 +7,12 @@ ghost use Rattle.way_tags.specs.Access.{decided, keys_of, meaning, without_leave
 ghost use Rattle.way_tags.specs.KnownKeys.{ArePlaces, known_key};
 
 use crate::found::{Places, value_at};
-use crate::known_keys::{ACCESS, BICYCLE_KEY, BUS_KEY, FOOT, HGV, KEY_COUNT, MOTORCAR, MOTOR_VEHICLE, PSV, VEHICLE};
-use crate::modes::{ALL, AUTO, BICYCLE, BUS, MOTOR_VEHICLES, PEDESTRIAN, TRUCK, VEHICLES, overridden};
+use crate::known_keys::{
+    ACCESS, BICYCLE_KEY, BUS_KEY, FOOT, HGV, KEY_COUNT, MOTOR_VEHICLE, MOTORCAR, PSV, VEHICLE,
+};
+use crate::modes::{
+    ALL, AUTO, BICYCLE, BUS, MOTOR_VEHICLES, PEDESTRIAN, TRUCK, VEHICLES, overridden,
+};
 use osm_model::TagsView;
 
 /// The modes after the tags of access, where these modes are the default: from the key that is tried last for
@@ -47,8 +51,14 @@ fn verdict_of(value: &str) -> Option<bool>
 {
     match value {
         "no" | "private" | "agricultural" | "forestry" | "use_sidepath" | "dismount" => Some(false),
-        "yes" | "designated" | "permissive" | "destination" | "customers" | "delivery"
-        | "official" | "public" => Some(true),
+        "yes"
+        | "designated"
+        | "permissive"
+        | "destination"
+        | "customers"
+        | "delivery"
+        | "official"
+        | "public" => Some(true),
         _ => None,
     }
 }

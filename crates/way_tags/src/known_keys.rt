@@ -5,23 +5,41 @@ ghost use Rattle.std.specs.Str.{bytes_eq};
 ghost use Rattle.way_tags.specs.KnownKeys.{known_key, likely_number};
 
 pub(crate) const HIGHWAY: usize = 0;
+
 pub(crate) const AREA: usize = 1;
+
 pub(crate) const ONEWAY: usize = 2;
+
 pub(crate) const JUNCTION: usize = 3;
+
 pub(crate) const ONEWAY_BICYCLE: usize = 4;
+
 pub(crate) const ONEWAY_BUS: usize = 5;
+
 pub(crate) const ONEWAY_PSV: usize = 6;
+
 pub(crate) const BARRIER: usize = 7;
+
 pub(crate) const ACCESS: usize = 8;
+
 pub(crate) const VEHICLE: usize = 9;
+
 pub(crate) const MOTOR_VEHICLE: usize = 10;
+
 pub(crate) const MOTORCAR: usize = 11;
+
 pub(crate) const HGV: usize = 12;
+
 pub(crate) const PSV: usize = 13;
+
 pub(crate) const BUS_KEY: usize = 14;
+
 pub(crate) const BICYCLE_KEY: usize = 15;
+
 pub(crate) const FOOT: usize = 16;
+
 pub(crate) const NAME: usize = 17;
+
 pub(crate) const REF: usize = 18;
 
 /// How many keys are known. As a number it stands for every other key.

@@ -4,9 +4,13 @@ ghost use Rattle.std.specs.Prelude.{◌≡◌, Bool, unwrap_or, if◌then◌else
 ghost use Rattle.way_tags.specs.Modes.{Mode, word_of};
 
 pub const AUTO: u16 = 1;
+
 pub const PEDESTRIAN: u16 = 2;
+
 pub const BICYCLE: u16 = 4;
+
 pub const TRUCK: u16 = 8;
+
 pub const BUS: u16 = 64;
 
 /// The bits of all modes together.

@@ -13,7 +13,9 @@ use crate::access::decided_modes;
 use crate::directions::{Dir, Oneway};
 use crate::found::{Places, places_of, value_at};
 use crate::highways::{Road, road_of};
-use crate::known_keys::{AREA, HIGHWAY, JUNCTION, KEY_COUNT, ONEWAY, ONEWAY_BICYCLE, ONEWAY_BUS, ONEWAY_PSV};
+use crate::known_keys::{
+    AREA, HIGHWAY, JUNCTION, KEY_COUNT, ONEWAY, ONEWAY_BICYCLE, ONEWAY_BUS, ONEWAY_PSV,
+};
 use crate::modes::{ALL, BICYCLE, BUS, PEDESTRIAN};
 use osm_model::TagsView;
 

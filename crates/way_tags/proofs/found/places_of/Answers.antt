@@ -23,6 +23,6 @@ loop-i-preserved c =
       within = omega arith;
       long = length-set c.loop-i.places c.key_number.result (c.loop-i.i - 1) ∙ c.loop-i.invariant.long;
       found = places_more c.args.tags.now (c.loop-i.i - 1) c.loop-i.places c.key_number.result tag (omega arith) c.loop-i.invariant.long
-      (λ k h. ap (λ key. bytes_eq key (known_key k)) (sym here) ∙ c.key_number.ensures.number k h)
-      (subst (λ n. ArePlaces c.args.tags.now n c.loop-i.places) back c.loop-i.invariant.found);
+          (λ k h. ap (λ key. bytes_eq key (known_key k)) (sym here) ∙ c.key_number.ensures.number k h)
+          (subst (λ n. ArePlaces c.args.tags.now n c.loop-i.places) back c.loop-i.invariant.found);
     }
