@@ -1,0 +1,6 @@
+pub mod Keys
+pub mod Kinds
+pub mod Members
+pub mod Exceptions
+pub mod Turns
+pub mod Rows
