@@ -1,0 +1,3 @@
+mod Lefts
+mod KindLemmas
+mod Listed

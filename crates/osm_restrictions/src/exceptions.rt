@@ -1,8 +1,9 @@
 //! The key `except`.
 
-ghost use Rattle.std.specs.Prelude.{◌≡◌, Bool, not, ◌&&◌};
-ghost use Rattle.way_tags.specs.Modes.{Mode, word_of};
-ghost use Rattle.osm_restrictions.specs.Exceptions.{past_spaces, without_spaces, takes_away, is_excepted_by, restricted_modes};
+ghost use Rattle.std.specs.Prelude.{◌≡◌, ◌==◌, bit_and, bit_xor, fold};
+ghost use Rattle.std.specs.List.{slice_split};
+ghost use Rattle.way_tags.specs.Modes.{word_of};
+ghost use Rattle.osm_restrictions.specs.Exceptions.{past_spaces, without_spaces, takes_away, restricted_modes};
 
 use crate::keys::spoken_modes;
 use osm_model::TagsView;
@@ -21,7 +22,7 @@ pub(crate) fn restricted_modes(tags: &TagsView<'_>) -> u16
 
 /// The modes that are left where those of each part are taken away.
 fn left_by(modes: u16, value: &[u8]) -> u16
-    ensures { (f : Mode → Bool) → modes ≡ word_of f → result ≡ word_of (λ mode. f mode && not (is_excepted_by value.now mode)) }
+    ensures { result ≡ fold (λ left part. bit_and left (bit_xor ALL (word_of (takes_away (without_spaces part))))) modes (slice_split (λ byte. byte == 59) value.now) }
 {
     value
         .split(|byte| *byte == b';')
@@ -32,13 +33,25 @@ fn left_by(modes: u16, value: &[u8]) -> u16
 fn taken_by(part: &[u8]) -> u16
     ensures { result ≡ word_of (takes_away (without_spaces part.now)) }
 {
-    match without_spaces(part) {
-        b"bicycle" => BICYCLE,
-        b"bus" | b"psv" => BUS,
-        b"hgv" => TRUCK,
-        b"motorcar" => AUTO,
-        b"motor_vehicle" => AUTO | TRUCK | BUS,
-        _ => 0,
+    modes_of(without_spaces(part))
+}
+
+/// The modes that a part without spaces takes away.
+fn modes_of(part: &[u8]) -> u16
+    ensures { result ≡ word_of (takes_away part.now) }
+{
+    if part == b"bicycle".as_slice() {
+        BICYCLE
+    } else if part == b"bus".as_slice() || part == b"psv".as_slice() {
+        BUS
+    } else if part == b"hgv".as_slice() {
+        TRUCK
+    } else if part == b"motorcar".as_slice() {
+        AUTO
+    } else if part == b"motor_vehicle".as_slice() {
+        AUTO | TRUCK | BUS
+    } else {
+        0
     }
 }
 

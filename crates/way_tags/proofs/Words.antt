@@ -92,3 +92,19 @@ has_mode f pedestrian = tells (f pedestrian) (bit_and (word_of f) 2) 2 (lit< tt)
 has_mode f bicycle = tells (f bicycle) (bit_and (word_of f) 4) 4 (lit< tt) (bit_tried 4 (λ a p b t u. b) refl (f auto) (f pedestrian) (f bicycle) (f truck) (f bus))
 has_mode f truck = tells (f truck) (bit_and (word_of f) 8) 8 (lit< tt) (bit_tried 8 (λ a p b t u. t) refl (f auto) (f pedestrian) (f bicycle) (f truck) (f bus))
 has_mode f bus = tells (f bus) (bit_and (word_of f) 64) 64 (lit< tt) (bit_tried 64 (λ a p b t u. u) refl (f auto) (f pedestrian) (f bicycle) (f truck) (f bus))
+
+-- the same modes have the same number
+pub word_same : (f g : Mode → Bool) → ((mode : Mode) → f mode ≡ g mode) → word_of f ≡ word_of g
+word_same f g same = λ i. word_of (λ mode. same mode i)
+
+-- the modes of one set without those of another
+pub without_word : (f g : Mode → Bool) → bit_and (word_of f) (bit_xor 79 (word_of g)) ≡ word_of (λ mode. f mode && not (g mode))
+without_word f g =
+    overridden_refused (word_of f) (word_of g) (Some false) refl f g refl refl
+    ∙ word_same (λ mode. unwrap_or (cond (g mode) (Some false) None) (f mode)) (λ mode. f mode && not (g mode)) (λ mode. one (f mode) (g mode))
+  where
+    one : (x y : Bool) → unwrap_or (cond y (Some false) None) x ≡ (x && not y)
+    one true true = refl
+    one true false = refl
+    one false true = refl
+    one false false = refl
