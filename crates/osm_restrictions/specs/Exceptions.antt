@@ -33,6 +33,10 @@ exceptions =
 abbrev pub takes_away : List ℕ → Mode → Bool
 takes_away part mode = option_map_or (λ row. is_listed row.modes mode) (find (λ row. is_among row.values part) exceptions) false
 
+-- the same modes as a number
+unfoldable pub taken_modes : List ℕ → ℕ
+taken_modes part = word_of (takes_away (without_spaces part))
+
 -- the value is cut at each semicolon, and the spaces are taken off both ends of each part
 abbrev pub is_excepted_by : List ℕ → Mode → Bool
 is_excepted_by value mode = list_any (λ part. takes_away (without_spaces part) mode) (slice_split (λ byte. byte == 59) value)

@@ -3,7 +3,7 @@
 ghost use Rattle.std.specs.Prelude.{◌≡◌, ◌==◌, bit_and, bit_xor, fold};
 ghost use Rattle.std.specs.List.{slice_split};
 ghost use Rattle.way_tags.specs.Modes.{word_of};
-ghost use Rattle.osm_restrictions.specs.Exceptions.{past_spaces, without_spaces, takes_away, restricted_modes};
+ghost use Rattle.osm_restrictions.specs.Exceptions.{past_spaces, without_spaces, takes_away, taken_modes, restricted_modes};
 
 use crate::keys::spoken_modes;
 use osm_model::TagsView;
@@ -22,16 +22,17 @@ pub(crate) fn restricted_modes(tags: &TagsView<'_>) -> u16
 
 /// The modes that are left where those of each part are taken away.
 fn left_by(modes: u16, value: &[u8]) -> u16
-    ensures { result ≡ fold (λ left part. bit_and left (bit_xor ALL (word_of (takes_away (without_spaces part))))) modes (slice_split (λ byte. byte == 59) value.now) }
+    ensures { result ≡ fold (λ left part. bit_and left (bit_xor ALL (taken_modes part))) modes (slice_split (λ byte. byte == 59) value.now) }
 {
     value
         .split(|byte| *byte == b';')
         .fold(modes, |left, part| left & (ALL ^ taken_by(part)))
 }
 
+#[tactic(auto, unfolding(crate::specs::Exceptions::taken_modes))]
 /// The modes that a part takes away.
 fn taken_by(part: &[u8]) -> u16
-    ensures { result ≡ word_of (takes_away (without_spaces part.now)) }
+    ensures { result ≡ taken_modes part.now }
 {
     modes_of(without_spaces(part))
 }
