@@ -4,3 +4,4 @@ pub mod Members
 pub mod Exceptions
 pub mod Turns
 pub mod Rows
+pub mod Reasons

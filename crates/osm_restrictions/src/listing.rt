@@ -2,6 +2,7 @@
 
 ghost use Rattle.std.specs.Prelude.{◌≡◌, ◌++◌, IfOk, OnOk, option_to_list};
 ghost use Rattle.osm_restrictions.specs.Rows.{row_of, skipped_of, rows_of_turns, skipped_turns};
+ghost use Rattle.osm_restrictions.specs.Reasons.{Tell, RowsRise, SkipsRise};
 
 use crate::keys::is_restriction;
 use crate::rows::{Skipped, SkippedRows, TurnRows, Turns};
@@ -13,6 +14,10 @@ use std::alloc::{AllocError, Global};
 pub fn turn_rows(alloc: Global, extract: &Extract) -> Result<Turns, AllocError>
     ensures rows { IfOk result (λ turns. turns.rows ≡ rows_of_turns extract.now) }
     ensures skipped { IfOk result (λ turns. turns.skipped ≡ skipped_turns extract.now) }
+    // each restriction is one row or one skip
+    ensures told { IfOk result (λ turns. Tell extract.now.relations turns.rows turns.skipped) }
+    ensures rows_rise { IfOk result (λ turns. RowsRise turns.rows) }
+    ensures skips_rise { IfOk result (λ turns. SkipsRise turns.skipped) }
 {
     let mut turns = Turns {
         rows: TurnRows::new(alloc),
