@@ -1,0 +1,5 @@
+mod Lefts
+mod KindLemmas
+mod Listed
+mod Told
+mod Rises

@@ -1,0 +1,5 @@
+pub mod Words
+pub mod Keys
+pub mod PlaceLemmas
+pub mod Deciding
+mod WorkedRows

@@ -1,0 +1,9 @@
+pub mod Modes
+pub mod Values
+pub mod Highways
+pub mod Access
+pub mod Oneways
+pub mod Ways
+pub mod Nodes
+pub mod Names
+pub mod KnownKeys
