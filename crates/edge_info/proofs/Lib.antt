@@ -1,0 +1,4 @@
+mod Fronts
+mod Shrinking
+mod EntryParts
+mod EntryLaws

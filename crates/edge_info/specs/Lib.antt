@@ -1,0 +1,6 @@
+pub mod Entries
+pub mod EntryReading
+pub mod EntryLoops
+pub mod Texts
+pub mod TextReading
+pub mod InfoSets

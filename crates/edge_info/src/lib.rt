@@ -1,0 +1,9 @@
+//! The infos of a tile: an entry for each piece of a road, with its shape and the places of its names among the texts,
+//! and these texts. Both ways: written, and read with the first check that fails.
+#![tactic(auto)]
+
+mod entries;
+mod infos;
+
+pub use entries::read_entries;
+pub use infos::{Info, InfoFault, InfoSet, Infos, TextPlaces, Texts};
