@@ -4,6 +4,8 @@
 
 mod entries;
 mod infos;
+mod laws;
 
 pub use entries::read_entries;
+pub use laws::{entries_law};
 pub use infos::{Info, InfoFault, InfoSet, Infos, TextPlaces, Texts};
