@@ -3,4 +3,5 @@ pub mod EntryReading
 pub mod EntryLoops
 pub mod Texts
 pub mod TextReading
+pub mod TextLoops
 pub mod InfoSets

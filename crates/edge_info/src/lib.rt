@@ -5,6 +5,8 @@
 mod entries;
 mod infos;
 mod laws;
+mod order;
+mod texts;
 
 pub use entries::read_entries;
 pub use laws::{entries_law};
