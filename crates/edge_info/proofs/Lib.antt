@@ -5,3 +5,4 @@ mod EntryLaws
 mod OrderLaws
 mod TextParts
 mod Noted
+mod TextLaws

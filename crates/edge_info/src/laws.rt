@@ -1,9 +1,11 @@
 //! What is read was written so, and what was written is read again.
-ghost use Rattle.std.specs.Prelude.{◌≡◌, ℕ, List, Ok};
+ghost use Rattle.std.specs.Prelude.{◌≡◌, ℕ, List, Ok, length};
 ghost use Rattle.section_grammar.specs.WordBytes.{IsByteList};
 ghost use Rattle.edge_info.specs.declared.infos.Info.{Info};
 ghost use Rattle.edge_info.specs.Entries.{AreInfos, infos_bytes};
 ghost use Rattle.edge_info.specs.EntryReading.{entries_at};
+ghost use Rattle.edge_info.specs.Texts.{AreTexts, texts_bytes};
+ghost use Rattle.edge_info.specs.TextReading.{texts_at};
 
 /// Entries that are read are good and were spelled so; good entries are read again from their bytes.
 pub fn entries_law()
@@ -11,4 +13,13 @@ pub fn entries_law()
         → entries_at end count section ≡ Ok infos → AreInfos count infos × (section ≡ infos_bytes infos) }
     ensures spelled { (end count : ℕ) (infos : List Info) → AreInfos count infos
         → entries_at end count (infos_bytes infos) ≡ Ok infos }
+{}
+
+/// Texts that are read are those of the entries' names and were spelled so; such texts are read again from their bytes.
+pub fn texts_law()
+    ensures found { (end : ℕ) (names : List ℕ) (count : ℕ) (section : List ℕ) (texts : List (List ℕ)) → IsByteList section
+        → texts_at end names count section ≡ Ok texts
+        → AreTexts names texts × (section ≡ texts_bytes texts) × (length texts ≡ count) }
+    ensures spelled { (end : ℕ) (names : List ℕ) (texts : List (List ℕ)) → AreTexts names texts
+        → texts_at end names (length texts) (texts_bytes texts) ≡ Ok texts }
 {}

@@ -6,8 +6,13 @@ mod entries;
 mod infos;
 mod laws;
 mod order;
+mod padding;
 mod texts;
+mod writes;
 
 pub use entries::read_entries;
-pub use laws::{entries_law};
+pub use padding::read_padding;
+pub use texts::read_texts;
+pub use writes::{push_infos, push_texts};
+pub use laws::{entries_law, texts_law};
 pub use infos::{Info, InfoFault, InfoSet, Infos, TextPlaces, Texts};

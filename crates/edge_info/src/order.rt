@@ -89,8 +89,9 @@ pub(crate) fn first_late(places: &[usize], names: &[u32]) -> usize
 }
 
 /// Whether each of these texts is named.
-pub(crate) fn are_named(places: &[usize], names: usize) -> bool
-    ensures { result ≡ list_all (λ place. nat_lt place names) places.now }
+pub(crate) fn are_named(places: &[usize], names: &[u32]) -> bool
+    ensures { result ≡ list_all (λ place. nat_lt place (length names.now)) places.now }
 {
-    places.iter().all(|place| *place < names)
+    let count = names.len();
+    places.iter().all(|place| *place < count)
 }

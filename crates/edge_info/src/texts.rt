@@ -88,7 +88,10 @@ fn text_of<'a>(alloc: Global, end: u64, late: bool, seen: &mut BTreeMap<&'a str,
     let Some((bytes, after)) = cut_text(rest) else {
         return Err(bad(at));
     };
-    if bytes.is_empty() || late {
+    if bytes.is_empty() {
+        return Err(bad(at));
+    }
+    if late {
         return Err(bad(at));
     }
     let Some(text) = in_utf8(bytes) else {
@@ -136,7 +139,7 @@ pub fn read_texts(alloc: Global, end: u64, count: u64, infos: &[Info], section: 
     if !rest.is_empty() {
         return Err(bad(place(end, rest)));
     }
-    if !are_named(&places, names.len()) {
+    if !are_named(&places, &names) {
         return Err(bad(end));
     }
     Ok(Seq::from_vec(texts))

@@ -1,0 +1,8 @@
+use Rattle.edge_info.proofs.TextLaws.{texts_found, texts_again}
+use Rattle.edge_info.proofs.laws.texts_law.Goals as goal
+
+pub returns-clause-found : goal.returns-clause-found
+returns-clause-found c = λ end names count section texts fits e. texts_found end names count section texts fits e
+
+pub returns-clause-spelled : goal.returns-clause-spelled
+returns-clause-spelled c = λ end names texts are. texts_again end names texts are
