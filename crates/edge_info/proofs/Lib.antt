@@ -6,3 +6,4 @@ mod OrderLaws
 mod TextParts
 mod Noted
 mod TextLaws
+mod InfoLaws

@@ -1,5 +1,5 @@
 -- Texts that are read are those that were written, and again.
-use Rattle.std.proofs.Common.{◌≡◌, ℕ, zero, suc, ◌+◌, ◌-◌, ◌^◌, ◌<◌, ◌≤◌, Bool, true, false, cond, ltb, leb, eqb, ◌&&◌, not, List, [], ◌∷◌, ◌++◌, length, get_or, take, drop, Result, Ok, Err, refl, sym, ap, subst, ◌∙◌, append_assoc, arith, inl, inr, ◌⊎◌}
+use Rattle.std.proofs.Common.{◌≡◌, ℕ, zero, suc, ◌+◌, ◌-◌, ◌^◌, ◌<◌, ◌≤◌, Bool, true, false, cond, ltb, leb, eqb, ◌&&◌, not, List, [], ◌∷◌, ◌++◌, length, All, get_or, take, drop, Result, Ok, Err, refl, sym, ap, subst, ◌∙◌, append_assoc, arith, inl, inr, ◌⊎◌}
 use Rattle.std.specs.Str.{is_utf8, bytes_eq}
 use Rattle.std.specs.List.{flat_map, list_any}
 use Rattle.std.proofs.lemmas.Bool.{and_parts, cases_lt, ltb-true, ltb-false, lt-ltb, le-ltb, leb-true, le-leb, eqb-true, eqb-false}
@@ -43,10 +43,10 @@ text_takes end names there before rest x after fits e =
     let spelled = and_parts (ltb 0 (length t)) (is_utf8 t) fresh.0 in
     let len : length t ≡ n = omega (arith, length-take n (drop 4 rest), room) in
     let back : rest ≡ (half_bytes (length t) ++ t) ++ after_text rest =
-        sym (half_takes rest fits long)
-        ∙ ap (λ k. half_bytes k ++ drop 4 rest) (sym len)
-        ∙ ap (λ u. half_bytes (length t) ++ u) (sym (take-append-drop n (drop 4 rest)))
-        ∙ sym (append_assoc (half_bytes (length t)) t (after_text rest)) in
+    sym (half_takes rest fits long)
+    ∙ ap (λ k. half_bytes k ++ drop 4 rest) (sym len)
+    ∙ ap (λ u. half_bytes (length t) ++ u) (sym (take-append-drop n (drop 4 rest)))
+    ∙ sym (append_assoc (half_bytes (length t)) t (after_text rest)) in
     let good : InOrder names there before t = record {
       good = record { some = ltb-true _ _ spelled.0; short = omega (arith, len, half_below rest fits); utf8 = spelled.1; new = not_true (list_any (λ s. bytes_eq s t) before) fresh.1 };
       order = not_true late tests.1;
@@ -131,7 +131,7 @@ in_order : (names : List ℕ) (there i : ℕ) → ((j : ℕ) → i < j → j < t
 unfolding out_of_order
 in_order names there i h =
     let none : any_below (λ j. first_place j names) (first_place i names) (suc i) (there - suc i) ≡ false =
-        all_above (λ j. first_place j names) (first_place i names) (suc i) (there - suc i) (λ j le lt. let b = h j (omega (arith, le)) (omega (arith, lt)) in omega (arith, b)) in
+    all_above (λ j. first_place j names) (first_place i names) (suc i) (there - suc i) (λ j le lt. let b = h j (omega (arith, le)) (omega (arith, lt)) in omega (arith, b)) in
     rw none (elim (ltb (first_place i names) (length names)) as (λ b. (b && false) ≡ false) [ true ↦ refl | false ↦ refl ])
 
 -- ---- each of the texts
@@ -151,9 +151,10 @@ orders names there before (x ∷ xs) h (suc i) lt = rw (pushed before x i) (orde
 with_orders : (names : List ℕ) (there : ℕ) (before texts : List (List ℕ)) → AllGood TextGood before texts → ((i : ℕ) → i < length texts → out_of_order names there (length before + i) ≡ false) → AllGood (InOrder names there) before texts
 with_orders names there before [] h o = tt
 with_orders names there before (x ∷ xs) h o =
-    let k : length before + 0 ≡ length before = omega arith in
-    (record { good = h.0; order = ap (out_of_order names there) (sym k) ∙ o 0 (omega arith) },
-     with_orders names there (before ++ x ∷ []) xs h.1 (λ i lt. ap (out_of_order names there) (sym (pushed before x i)) ∙ o (suc i) (omega (arith, lt))))
+    let k : length before + 0 ≡ length before = omega arith in (
+      record { good = h.0; order = ap (out_of_order names there) (sym k) ∙ o 0 (omega arith) },
+      with_orders names there (before ++ x ∷ []) xs h.1 (λ i lt. ap (out_of_order names there) (sym (pushed before x i)) ∙ o (suc i) (omega (arith, lt))),
+    )
 
 each_named : (names : List ℕ) (from n : ℕ) → all_named names from n ≡ true → (i : ℕ) → from ≤ i → i < from + n → first_place i names < length names
 each_named names from zero e i le lt = absurd (omega (arith, le, lt))
@@ -218,3 +219,11 @@ texts_again end names texts are =
     let each : AllGood (InOrder names n) [] texts = with_orders names n [] texts are.each (λ i lt. let k : 0 + i ≡ i = omega arith in ap (out_of_order names n) k ∙ in_order names n i (λ j l b. are.ordered i j l b)) in
     let many : read_many (text_at end names n) n [] bytes ≡ Ok (texts, []) = ap (λ t. read_many (text_at end names n) n [] t) (sym nil) ∙ (text_section end names n).spelled texts [] each in
     read_so end names n n bytes texts there many (all_named_so names 0 n (λ i le lt. are.named i (omega (arith, lt))))
+
+short_at : (before texts : List (List ℕ)) → AllGood TextGood before texts → (k : ℕ) (d : List ℕ) → k < length texts → length (get_or texts k d) < 2 ^ 32
+short_at before [] h k d lt = absurd (omega arith)
+short_at before (x ∷ xs) h zero d lt = h.0.short
+short_at before (x ∷ xs) h (suc k) d lt = short_at (before ++ x ∷ []) xs h.1 k d (omega arith)
+
+pub texts_sized : (names : List ℕ) (texts : List (List ℕ)) → AreTexts names texts → All (λ text. length text < 2 ^ 32) texts
+texts_sized names texts are = λ k d lt. short_at [] texts are.each k d lt

@@ -85,8 +85,8 @@ late_flag late found i count first le lt small =
     elim (cases_lt i found) [
       | inl below ↦ first.before i below ∙ sym (ne_eqb i found (λ same. omega (arith, same, below)))
       | inr above ↦ (
-        let same : i ≡ found = omega (arith, le, above) in
-        ap late same ∙ first.here (omega (arith, same, lt, small)) ∙ sym (eq-eqb i found same))
+          let same : i ≡ found = omega (arith, le, above) in
+          ap late same ∙ first.here (omega (arith, same, lt, small)) ∙ sym (eq-eqb i found same))
     ]
 
 text_whole : (end : ℕ) (names : List ℕ) (there : ℕ) (before : List (List ℕ)) (rest : List ℕ) (x : List ℕ × List ℕ) → text_at end names there before rest ≡ Ok x → (has_text rest ≡ true) × (x.1 ≡ after_text rest)

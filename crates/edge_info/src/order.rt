@@ -37,7 +37,11 @@ fn filled(alloc: Global, number: usize, times: usize) -> Result<Vec<usize>, Allo
 }
 
 /// Where each of so many texts is first named, and the number of names where it isn't.
-pub(crate) fn first_places(alloc: Global, names: &[u32], there: usize) -> Result<Vec<usize>, AllocError>
+pub(crate) fn first_places(
+    alloc: Global,
+    names: &[u32],
+    there: usize,
+) -> Result<Vec<usize>, AllocError>
     ensures { IfOk result (λ v. ArePlaces names.now 0 there v.items) }
 {
     let mut places = filled(alloc, names.len(), there)?;

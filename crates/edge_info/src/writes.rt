@@ -1,7 +1,7 @@
 //! Writing entries and texts.
 ghost use Rattle.std.specs.Prelude.{◌≡◌, ◌<◌, ◌^◌, ◌++◌, ◌∷◌, [], length, All, OnOk};
 ghost use Rattle.section_grammar.specs.WordBytes.{half_bytes, halves_bytes};
-ghost use Rattle.edge_info.specs.Entries.{key_bytes, point_bytes, counted_bytes, info_bytes, infos_bytes};
+ghost use Rattle.edge_info.specs.Entries.{key_bytes, point_bytes, counted_bytes, info_bytes, infos_bytes, IsSized};
 ghost use Rattle.edge_info.specs.Texts.{text_bytes, texts_bytes};
 ghost use Rattle.std.specs.List.{flat_map};
 
@@ -64,9 +64,9 @@ fn push_info(out: &mut Vec<u8>, info: &Info) -> Result<(), AllocError>
     push_names(out, info.texts.as_slice())
 }
 
-/// Puts entries that stand before so many texts behind the bytes.
+/// Puts entries behind the bytes.
 pub fn push_infos(out: &mut Vec<u8>, infos: &[Info]) -> Result<(), AllocError>
-    requires { All (λ info. (length info.shape < 2 ^ 32) × (length info.texts < 2 ^ 32)) infos.now }
+    requires { All IsSized infos.now }
     ensures { OnOk result (out.new.items ≡ out.old.items ++ infos_bytes infos.now) }
 {
     for info in infos {

@@ -13,24 +13,24 @@ pub returns-then-is_empty-clause-text : goal.returns-then-is_empty-clause-text
 returns-then-is_empty-clause-text c = λ names there before order had.
     let none : length c.in-Some.bytes.now ≡ 0 = search rules in
     fails_so c.args.end c.args.rest.now c.bad-then-is_empty.result c.place-at.result (text_at c.args.end names there before c.args.rest.now) c.bad-then-is_empty.ensures c.place-at.ensures
-      (is_empty c.args.end names there before c.args.rest.now c.in-Some.ensures.0 (subst (λ t. length t ≡ 0) c.in-Some.ensures.1 none))
+    (is_empty c.args.end names there before c.args.rest.now c.in-Some.ensures.0 (subst (λ t. length t ≡ 0) c.in-Some.ensures.1 none))
 
 pub returns-then-late-clause-text : goal.returns-then-late-clause-text
 returns-then-late-clause-text c = λ names there before order had.
     fails_so c.args.end c.args.rest.now c.bad-then-late.result c.place-at.result (text_at c.args.end names there before c.args.rest.now) c.bad-then-late.ensures c.place-at.ensures
-      (is_late c.args.end names there before c.args.rest.now c.in-Some.ensures.0 (order ∙ c.if-late.true))
+    (is_late c.args.end names there before c.args.rest.now c.in-Some.ensures.0 (order ∙ c.if-late.true))
 
 pub returns-in_default-in_utf8-clause-text : goal.returns-in_default-in_utf8-clause-text
 returns-in_default-in_utf8-clause-text c = λ names there before order had.
     fails_so c.args.end c.args.rest.now c.bad-in_default-in_utf8.result c.place-at.result (text_at c.args.end names there before c.args.rest.now) c.bad-in_default-in_utf8.ensures c.place-at.ensures
-      (no_utf8 c.args.end names there before c.args.rest.now c.in-Some.ensures.0 (subst (λ t. is_utf8 t ≡ false) c.in-Some.ensures.1 c.in_default-in_utf8.ensures))
+    (no_utf8 c.args.end names there before c.args.rest.now c.in-Some.ensures.0 (subst (λ t. is_utf8 t ≡ false) c.in-Some.ensures.1 c.in_default-in_utf8.ensures))
 
 pub returns-then-branch-clause-text : goal.returns-then-branch-clause-text
 returns-then-branch-clause-text c = λ names there before order had.
     let told : c.in_ok-note.field-0 ≡ list_any (λ t. bytes_eq t c.in-Some-in_utf8.text.now) before = c.in_ok-note.ensures.told before had in
     let new : list_any (λ t. bytes_eq t c.in-Some-in_utf8.text.now) before ≡ true = sym told ∙ c.if-branch.true in
     fails_so c.args.end c.args.rest.now c.bad-then-branch.result c.place-at.result (text_at c.args.end names there before c.args.rest.now) c.bad-then-branch.ensures c.place-at.ensures
-      (not_new c.args.end names there before c.args.rest.now c.in-Some.ensures.0 (subst (λ t. list_any (λ s. bytes_eq s t) before ≡ true) (c.in-Some-in_utf8.ensures.0 ∙ c.in-Some.ensures.1) new))
+    (not_new c.args.end names there before c.args.rest.now c.in-Some.ensures.0 (subst (λ t. list_any (λ s. bytes_eq s t) before ≡ true) (c.in-Some-in_utf8.ensures.0 ∙ c.in-Some.ensures.1) new))
 
 pub returns-clause-text : goal.returns-clause-text
 returns-clause-text c = λ names there before order had.

@@ -21,11 +21,12 @@ loop-number-preserved c =
     let away = eqb-false _ _ (sym c.is_here.ensures ∙ c.in_ok-text.ensures.in_order) in
     rw c.in_ok-push.ensures.items (
       (λ names there late.
-        let flag : out_of_order names there (length c.loop-number.texts.items) ≡ c.is_here.result = ap (out_of_order names there) c.loop-number.invariant.2 ∙ late_flag (out_of_order names there) c.args.late c.loop-number.number c.args.count late c.loop-number.invariant.3 c.loop-number-test.true small ∙ sym c.is_here.ensures in
-        goes_on (text_at c.args.end names there) c.loop-number.texts.items c.args.count c.loop-number.number c.loop-number.rest.now c.in_ok-text.text c.in_ok-text.after.now (read_many (text_at c.args.end names there) c.args.count [] c.args.section.now) c.loop-number-test.true (c.in_ok-text.ensures.text names there c.loop-number.texts.items flag c.loop-number.invariant.1) (c.loop-number.invariant.0 names there late)),
+          let flag : out_of_order names there (length c.loop-number.texts.items) ≡ c.is_here.result = ap (out_of_order names there) c.loop-number.invariant.2 ∙ late_flag (out_of_order names there) c.args.late c.loop-number.number c.args.count late c.loop-number.invariant.3 c.loop-number-test.true small ∙ sym c.is_here.ensures in
+          goes_on (text_at c.args.end names there) c.loop-number.texts.items c.args.count c.loop-number.number c.loop-number.rest.now c.in_ok-text.text c.in_ok-text.after.now (read_many (text_at c.args.end names there) c.args.count [] c.args.section.now) c.loop-number-test.true (c.in_ok-text.ensures.text names there c.loop-number.texts.items flag c.loop-number.invariant.1) (c.loop-number.invariant.0 names there late)),
       c.in_ok-text.ensures.noted c.loop-number.texts.items c.loop-number.invariant.1,
       omega (arith, length-append c.loop-number.texts.items (c.in_ok-text.text ∷ []), c.loop-number.invariant.2),
-      omega (arith, away, c.loop-number.invariant.3))
+      omega (arith, away, c.loop-number.invariant.3),
+    )
 
 pub returns : goal.returns
 returns c = λ names there late. is_done (text_at c.args.end names there) c.loop-number.texts.items c.args.count c.loop-number.number c.loop-number.rest.now (read_many (text_at c.args.end names there) c.args.count [] c.args.section.now) c.loop-number-test.false (c.loop-number.invariant.0 names there late)
