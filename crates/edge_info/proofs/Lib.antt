@@ -1,0 +1,9 @@
+mod Fronts
+mod Shrinking
+mod EntryParts
+mod EntryLaws
+mod OrderLaws
+mod TextParts
+mod Noted
+mod TextLaws
+mod InfoLaws

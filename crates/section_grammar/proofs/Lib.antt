@@ -1,0 +1,4 @@
+pub mod ByteLists
+pub mod WordLaws
+pub mod Steps
+pub mod Sections

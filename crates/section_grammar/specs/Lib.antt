@@ -1,0 +1,4 @@
+pub mod WordBytes
+pub mod Reads
+pub mod Sections
+pub mod Answers
