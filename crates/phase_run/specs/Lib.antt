@@ -1,4 +1,5 @@
 pub mod Looks
+pub mod PartsSeat
 pub mod Rest
 pub mod Stays
 pub mod Tries

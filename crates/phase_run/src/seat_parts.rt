@@ -58,16 +58,18 @@ pub struct SeatParts<'a, P: Phase> {
 }
 
 impl<'a, P: Phase> SeatParts<'a, P> {
+    ghost use Rattle.phase_run.specs.PartsSeat.{parts_phase, parts_table, parts_seat};
+
     /// The parts of the seat's world. The phase fits that world, and its finished tiles are the seat's goal. It takes no memory.
     pub fn new(phase: &'a P, table: &'a TileTable<P>, seat: &'a mut Seat<P>) -> SeatParts<'a, P>
         requires table { IsAt table.now seat.old }
         requires hand { (view seat.old).hand ≡ Hand.Empty }
         requires fits { P.fits phase.now (view seat.old).world }
         requires goal { (view seat.old).goal ≡ P.finished phase.now (view seat.old).world }
-        ensures phase { result.phase.now ≡ phase.now }
-        ensures table { result.table.now ≡ table.now }
+        ensures phase { parts_phase result ≡ phase.now }
+        ensures table { parts_table result ≡ table.now }
         ensures seat { result.seat.ghost_name ≡ seat.entry.ghost_name }
-        ensures same { result.seat.now ≡ seat.old }
+        ensures same { parts_seat result ≡ seat.old }
         ensures shows { Shown (P.readable phase.now) (view seat.old) (map (P.readable phase.now) (view seat.old).world) }
     {
         SeatParts { phase, table, seat }
@@ -75,6 +77,7 @@ impl<'a, P: Phase> SeatParts<'a, P> {
 }
 
 impl<'a, P: Phase> Parts<P::Part> for SeatParts<'a, P> {
+    ghost use Rattle.phase_run.specs.PartsSeat.{parts_phase, parts_seat};
     ghost use Rattle.phase_run.specs.Stays.{looked-same, looked-on, shown-again, shown-many};
 
     ghost shows = { λ a ps. Shown (P.readable a.phase.now) (view a.seat.now) ps };
@@ -98,14 +101,14 @@ impl<'a, P: Phase> Parts<P::Part> for SeatParts<'a, P> {
     }
 
     fn part(&mut self, alloc: Global, j: u64) -> Result<P::Part, PartFault>
-        requires { j < length (view self.old.seat.now).world }
-        ensures stays { (self.new.phase ≡ self.old.phase) × (self.new.table ≡ self.old.table) × (self.new.seat.ghost_name ≡ self.old.seat.ghost_name) × Looked self.old.seat.now self.new.seat.now }
-        ensures lost { length (view self.old.seat.now).lost ≤ length (view self.new.seat.now).lost }
-        ensures part { IfOk result (λ p. (ps : List P.Part) → Shown (P.readable self.old.phase.now) (view self.old.seat.now) ps → At ps j p) }
-        ensures late { IfLate result (length (view self.old.seat.now).lost < length (view self.new.seat.now).lost) }
-        ensures tries { IfLateAt result (TriedInVain j (view self.old.seat.now) (view self.new.seat.now)) }
-        ensures takes { HadOrLate result (TookOne j (view self.old.seat.now) (view self.new.seat.now)) ((view self.new.seat.now).takes ≡ (view self.old.seat.now).takes) }
-        ensures few { length (view self.new.seat.now).lost ≤ length (view self.old.seat.now).lost + tries_in_a_row }
+        requires { j < length (view (parts_seat self.old)).world }
+        ensures stays { (self.new.phase ≡ self.old.phase) × (self.new.table ≡ self.old.table) × (self.new.seat.ghost_name ≡ self.old.seat.ghost_name) × Looked (parts_seat self.old) (parts_seat self.new) }
+        ensures lost { length (view (parts_seat self.old)).lost ≤ length (view (parts_seat self.new)).lost }
+        ensures part { IfOk result (λ p. (ps : List P.Part) → Shown (P.readable (parts_phase self.old)) (view (parts_seat self.old)) ps → At ps j p) }
+        ensures late { IfLate result (length (view (parts_seat self.old)).lost < length (view (parts_seat self.new)).lost) }
+        ensures tries { IfLateAt result (TriedInVain j (view (parts_seat self.old)) (view (parts_seat self.new))) }
+        ensures takes { HadOrLate result (TookOne j (view (parts_seat self.old)) (view (parts_seat self.new))) ((view (parts_seat self.new)).takes ≡ (view (parts_seat self.old)).takes) }
+        ensures few { length (view (parts_seat self.new)).lost ≤ length (view (parts_seat self.old)).lost + tries_in_a_row }
     {
         part_of(alloc, self.phase, self.table, &mut *self.seat, j)
     }

@@ -12,8 +12,8 @@ use std::alloc::{AllocError, Global};
 ///
 /// A tile has a readable part, which the phase leaves as it is, and fields that it writes. The finished tile of a place
 /// follows from that place's tile and from the readable parts of all tiles. So it is the same whether a neighbour that is
-/// read is finished already or not, and a phase whose finished tile needs what a neighbour hasn't finished has no
-/// implementation: it can't prove `from_parts`.
+/// read is finished already or not. A phase whose finished tile needs fields that it writes of a neighbour, and that its worlds
+/// don't fix, has no implementation: it can't prove `from_parts`, or, where it calls such a field readable, `same_parts`.
 pub trait Phase {
     type Tile: Drop;
 
@@ -36,7 +36,7 @@ pub trait Phase {
     fn copy(&self, alloc: Global, tile: &Self::Tile) -> Result<Self::Tile, AllocError>
         ensures { IfOk result (λ t. t ≡ tile.now) };
 
-    /// The finished tile of place `i`, from the world's tile there and the parts of that world.
+    /// The finished tile of place `i`, which is one of the world's, from the world's tile there and the parts of that world.
     fn rewrite<S: Parts<Self::Part>>(
         &self,
         alloc: Global,
