@@ -121,3 +121,13 @@ pub fn one_meridian()
 pub fn same_both_ways()
     ensures { (a b : Point) → length_cm a b ≡ length_cm b a }
 {}
+
+/// The lengths of some segments: 0.001 degrees on the equator, at 60 degrees, and across the meridian of 180 degrees; from
+/// a point to itself; and 5 units to the north, which are 5.566 cm.
+pub fn worked_lengths()
+    ensures equator { length_cm (record { lat = pos 0; lon = pos 0 }) (record { lat = pos 0; lon = pos 10_000 }) ≡ 11_132 }
+    ensures sixty { length_cm (record { lat = pos 600_000_000; lon = pos 0 }) (record { lat = pos 600_000_000; lon = pos 10_000 }) ≡ 5_566 }
+    ensures across { length_cm (record { lat = pos 0; lon = pos 1_799_995_000 }) (record { lat = pos 0; lon = neg_ℤ (pos 1_799_995_000) }) ≡ 11_132 }
+    ensures itself { length_cm (record { lat = pos 412_500_000; lon = pos 7 }) (record { lat = pos 412_500_000; lon = pos 7 }) ≡ 0 }
+    ensures rounded_down { length_cm (record { lat = pos 0; lon = pos 0 }) (record { lat = pos 5; lon = pos 0 }) ≡ 5 }
+{}

@@ -9,7 +9,7 @@ mod shapes;
 #[cfg(test)]
 mod tests;
 
-pub use lengths::{near, one_meridian, same_both_ways, segment_cm};
+pub use lengths::{near, one_meridian, same_both_ways, segment_cm, worked_lengths};
 pub use points::Point;
 pub use roots::whole_root;
 pub use shapes::Shape;

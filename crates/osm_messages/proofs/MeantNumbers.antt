@@ -161,10 +161,13 @@ one_same kinds.Dense n = refl
 one_same kinds.Way n = or_one (eqb n 1)
 one_same kinds.Relation n = or_one (eqb n 1)
 
+lists_of_ways : (n : ℕ) → is_among n (shape_of kinds.Way).lists ≡ holds_many kinds.Way n
+lists_of_ways n = or_three (eqb n 2) (eqb n 3) (eqb n 8)
+
 pub many_same : (kind : ObjectKind) (n : ℕ) → is_among n (shape_of kind).lists ≡ holds_many kind n
 many_same kinds.Node n = or_two (eqb n 2) (eqb n 3)
 many_same kinds.Dense n = or_four (eqb n 1) (eqb n 8) (eqb n 9) (eqb n 10)
-many_same kinds.Way n = or_three (eqb n 2) (eqb n 3) (eqb n 8)
+many_same kinds.Way n = lists_of_ways n
 many_same kinds.Relation n = or_five (eqb n 2) (eqb n 3) (eqb n 8) (eqb n 9) (eqb n 10)
 
 held_means : (kind : ObjectKind) (field at : ℕ) (content : Content) → InBytes content → (s u : List (ℕ × ℕ)) → (with_held (shape_of kind) field at content s ≡ Ok u) ↔ HeldBehind field (HoldsNumbers kind field content) s u

@@ -201,9 +201,15 @@ way_decides table scale at held =
 
 -- ---- members
 
+type_of_nodes : (at : ℕ) (k : MemberKind) → kind_of at 0 ≡ Ok k → 0 ≡ type_of k
+type_of_nodes at k e = ap type_of (ok_one members.Node k e)
+
+type_of_ways : (at : ℕ) (k : MemberKind) → kind_of at 1 ≡ Ok k → 1 ≡ type_of k
+type_of_ways at k e = ap type_of (ok_one members.Way k e)
+
 type_ok : (at n : ℕ) (k : MemberKind) → kind_of at n ≡ Ok k → n ≡ type_of k
-type_ok at zero k e = ap type_of (ok_one members.Node k e)
-type_ok at (suc zero) k e = ap type_of (ok_one members.Way k e)
+type_ok at zero k e = type_of_nodes at k e
+type_ok at (suc zero) k e = type_of_ways at k e
 type_ok at (suc (suc zero)) k e = ap type_of (ok_one members.Relation k e)
 type_ok at (suc (suc (suc n))) k e = absurd (ok_not_err k (faults.Uneven at) (sym e))
 

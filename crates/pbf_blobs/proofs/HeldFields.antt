@@ -205,20 +205,23 @@ bytes_same : (xs : List ℕ) → bytes_eq xs xs ≡ true
 bytes_same [] = refl
 bytes_same (x ∷ xs) = ap (λ b. b && bytes_eq xs xs) (same_test x) ∙ bytes_same xs
 
-pub known_type : (kind : List ℕ) → (is_known kind ≡ true) ↔ IsKnownType kind
-known_type kind = (by (bytes_eq kind (codes "OSMHeader")) refl, back)
+one_of_two : (kind one other : List ℕ) → ((bytes_eq kind one || bytes_eq kind other) ≡ true) ↔ ((kind ≡ one) ⊎ (kind ≡ other))
+one_of_two kind one other = (by (bytes_eq kind one) refl, back)
   where
-    by : (b : Bool) → bytes_eq kind (codes "OSMHeader") ≡ b → (b || bytes_eq kind (codes "OSMData")) ≡ true → IsKnownType kind
-    by true h e = inl (same_bytes kind (codes "OSMHeader") h)
-    by false h e = inr (same_bytes kind (codes "OSMData") e)
+    by : (b : Bool) → bytes_eq kind one ≡ b → (b || bytes_eq kind other) ≡ true → (kind ≡ one) ⊎ (kind ≡ other)
+    by true h e = inl (same_bytes kind one h)
+    by false h e = inr (same_bytes kind other e)
 
     either : (b : Bool) → (b || true) ≡ true
     either true = refl
     either false = refl
 
-    back : IsKnownType kind → is_known kind ≡ true
-    back (inl e) = ap (λ b. b || bytes_eq kind (codes "OSMData")) (ap (λ k. bytes_eq k (codes "OSMHeader")) e ∙ bytes_same (codes "OSMHeader"))
-    back (inr e) = ap (λ b. bytes_eq kind (codes "OSMHeader") || b) (ap (λ k. bytes_eq k (codes "OSMData")) e ∙ bytes_same (codes "OSMData")) ∙ either (bytes_eq kind (codes "OSMHeader"))
+    back : (kind ≡ one) ⊎ (kind ≡ other) → (bytes_eq kind one || bytes_eq kind other) ≡ true
+    back (inl e) = ap (λ b. b || bytes_eq kind other) (ap (λ k. bytes_eq k one) e ∙ bytes_same one)
+    back (inr e) = ap (λ b. bytes_eq kind one || b) (ap (λ k. bytes_eq k other) e ∙ bytes_same other) ∙ either (bytes_eq kind one)
+
+pub known_type : (kind : List ℕ) → (is_known kind ≡ true) ↔ IsKnownType kind
+known_type kind = one_of_two kind (codes "OSMHeader") (codes "OSMData")
 
 pub known_same : (kind : List ℕ) (known : Bool) → (known ≡ true) ↔ IsKnownType kind → is_known kind ≡ known
 known_same kind true so = (known_type kind).1 (so.0 refl)

@@ -1,5 +1,5 @@
 //! The grid of tiles on the three hierarchy levels.
-ghost use Rattle.std.specs.Prelude.{◌≡◌, ℕ, ◌*◌, ◌<◌, ◌≤◌, ◌↔◌, pos, ◌-ℤ◌, IsSome, IfSome};
+ghost use Rattle.std.specs.Prelude.{◌≡◌, ℕ, ◌*◌, ◌<◌, ◌≤◌, ◌↔◌, pos, neg_ℤ, ◌-ℤ◌, IsSome, IfSome};
 ghost use Rattle.fixed_geo.specs.Place.{IsPlace};
 ghost use Rattle.fixed_geo.specs.declared.points.Point.{Point};
 ghost use Rattle.tile_geometry.specs.Grid.{tile_units, columns, rows, tile_count, row_of, column_of, grid_tile, corner, IsTile, Holds, class_level};
@@ -57,6 +57,17 @@ pub fn south_west(level: u32, tile: u32) -> Option<Point>
 /// below the place on both axes and less than one tile away, at most one tile at the outer edges.
 pub fn tile_holds_place()
     ensures { (level : ℕ) (p : Point) → level ≤ 2 → IsPlace p → Holds level (grid_tile level p) p }
+{}
+
+/// The numbers of tiles of some places: one in the Hudson valley on each level, one on the meridian of 180 degrees, and
+/// the corner at the north pole.
+pub fn worked_tiles()
+    ensures level_2 { grid_tile 2 (record { lat = pos 412_500_000; lon = neg_ℤ (pos 737_500_000) }) ≡ 756_425 }
+    ensures level_1 { grid_tile 1 (record { lat = pos 412_500_000; lon = neg_ℤ (pos 737_500_000) }) ≡ 47_266 }
+    ensures level_0 { grid_tile 0 (record { lat = pos 412_500_000; lon = neg_ℤ (pos 737_500_000) }) ≡ 2_906 }
+    ensures meridian { grid_tile 2 (record { lat = pos 0; lon = pos 1_800_000_000 }) ≡ 519_839 }
+    ensures pole { grid_tile 2 (record { lat = pos 900_000_000; lon = pos 1_800_000_000 }) ≡ 1_036_799 }
+    ensures corner { corner 1 47_266 ≡ record { lat = pos 410_000_000; lon = neg_ℤ (pos 740_000_000) } }
 {}
 
 /// The place that is so many units north of the south pole and east of the meridian of -180 degrees.
