@@ -75,8 +75,8 @@ pub ReadTo-ends : (bytes : List ℕ) (at : ℕ) (draft : Draft) (result : Result
 ReadTo-ends bytes at draft (Ok extract) so_far next all ends =
     record { blobs = so_far.blobs; draft = draft; frames = so_far.frames Ends next; grows = so_far.grows; ends = ends }
 ReadTo-ends bytes at draft (Err fault) so_far next all ends =
-    where_given (is_of_bytes fault)
-    (record { blobs = so_far.blobs; draft = draft; grows = so_far.grows; next = inr (inr (so_far.frames Ends next, subst (λ n. EndsWith n draft fault) all ends)) })
+    where_map (is_of_bytes fault)
+    (λ (end : EndsWith at draft fault). record { blobs = so_far.blobs; draft = draft; grows = so_far.grows; next = inr (inr (so_far.frames Ends next, subst (λ n. EndsWith n draft fault) all end)) }) ends
 
 -- the end brings no fault of reading
 pub ends_unread : (size : ℕ) (draft : Draft) (fault : ExtractFault) → EndsWith size draft fault → is_read fault ≡ false

@@ -23,7 +23,7 @@ seen draft = record { headed = draft.headed; objects = seen_objects draft.lists 
 
 -- each node that has been read is at a place on the earth
 abbrev pub ArePlaced : ProgramDraft → Type 0
-ArePlaced draft = All IsPlaced draft.lists.nodes.items
+ArePlaced draft = All IsPlaced draft.lists.nodes
 
 -- the new value is the one that is given; a fault of the bytes exactly where it is given
 abbrev pub Becomes : {A B : Type 0} → Result A ExtractFault → B → Result B ExtractFault → Type 0
@@ -93,4 +93,4 @@ listed counts =
 -- The draft of an input of so many bytes was finished, or the fault is that of its end.
 abbrev pub Finishes : ℕ → Draft → Result Extract ExtractFault → Type 0
 Finishes size draft (Ok extract) = IsFinished draft (lists_of extract)
-Finishes size draft (Err fault) = EndsWith size draft fault
+Finishes size draft (Err fault) = Where (is_of_bytes fault) (EndsWith size draft fault)

@@ -1,13 +1,13 @@
 //! How many there are, and how many there may be.
 
 ghost use Rattle.std.specs.Prelude.{◌≡◌};
-ghost use Rattle.osm_model.specs.Extract.{refs_in, members_in, tags_of_nodes, tags_of_ways, tags_of_relations};
+ghost use Rattle.osm_model.specs.Extract.{refs_in, members_in, tags_of_ways, tags_of_relations};
 ghost use Rattle.osm_objects.specs.Seen.{seen_objects};
 ghost use Rattle.osm_blocks.specs.Counts.{as_u64, counts_of, first_past};
 ghost use Rattle.osm_blocks.specs.Steps.{listed};
 
 use crate::fault::Counted;
-use osm_model::{OsmNode, OsmRelation, OsmWay};
+use osm_model::{Relations, Ways};
 use osm_objects::ObjectLists;
 
 const MOST_NODES: u64 = 10_000_000;
@@ -34,41 +34,32 @@ pub struct Counts {
     pub tags: u64,
 }
 
-/// The tags of all nodes.
-fn count_node_tags(nodes: &[OsmNode]) -> u64
-    ensures { result ≡ as_u64 (tags_of_nodes nodes.now) }
-{
-    let mut tags = 0u64;
-    for node in nodes {
-        tags = tags.saturating_add(node.tags.len() as u64);
-    }
-    tags
-}
-
 /// The refs and the tags of all ways.
-fn count_ways(ways: &[OsmWay]) -> (u64, u64)
+fn count_ways(ways: &Ways) -> (u64, u64)
     ensures refs { result.0 ≡ as_u64 (refs_in ways.now) }
     ensures tags { result.1 ≡ as_u64 (tags_of_ways ways.now) }
 {
     let mut refs = 0u64;
     let mut tags = 0u64;
-    for way in ways {
-        refs = refs.saturating_add(way.refs.len() as u64);
-        tags = tags.saturating_add(way.tags.len() as u64);
+    for i in 0..ways.len() {
+        let way = ways.at(i);
+        refs = refs.saturating_add(way.refs().len() as u64);
+        tags = tags.saturating_add(way.tags().len() as u64);
     }
     (refs, tags)
 }
 
 /// The members and the tags of all relations.
-fn count_relations(relations: &[OsmRelation]) -> (u64, u64)
+fn count_relations(relations: &Relations) -> (u64, u64)
     ensures members { result.0 ≡ as_u64 (members_in relations.now) }
     ensures tags { result.1 ≡ as_u64 (tags_of_relations relations.now) }
 {
     let mut members = 0u64;
     let mut tags = 0u64;
-    for relation in relations {
-        members = members.saturating_add(relation.members.len() as u64);
-        tags = tags.saturating_add(relation.tags.len() as u64);
+    for i in 0..relations.len() {
+        let relation = relations.at(i);
+        members = members.saturating_add(relation.members().len() as u64);
+        tags = tags.saturating_add(relation.tags().len() as u64);
     }
     (members, tags)
 }
@@ -77,7 +68,7 @@ fn count_relations(relations: &[OsmRelation]) -> (u64, u64)
 pub fn count(lists: &ObjectLists) -> Counts
     ensures { listed result ≡ counts_of (seen_objects lists.now) }
 {
-    let node_tags = count_node_tags(&lists.nodes);
+    let node_tags = lists.nodes.count_tags();
     let (refs, way_tags) = count_ways(&lists.ways);
     let (members, relation_tags) = count_relations(&lists.relations);
     Counts {

@@ -63,17 +63,21 @@ impl Draft {
         }
     }
 
-    /// The extract of all that was read from an input of `size` bytes. Takes no memory.
-    pub fn finish(self, size: u64) -> Result<Extract, ExtractFault>
+    /// The extract of all that was read from an input of `size` bytes. Memory is taken only where nodes aren't in order of
+    /// id.
+    pub fn finish(self, alloc: Global, size: u64) -> Result<Extract, ExtractFault>
         requires { ArePlaced self }
-        ensures { Finishes size (seen self) result }
+        ensures end { Finishes size (seen self) result }
+        ensures no_read { IfErr result (λ fault. is_read fault ≡ false) }
     {
         if !self.headed {
             return Err(ExtractFault::NoHeader { at: size });
         }
         let mut lists = self.lists;
-        if let Some((kind, id)) = order_all(&mut lists) {
-            return Err(ExtractFault::DuplicateId { kind, id });
+        match order_all(alloc, &mut lists) {
+            Ok(None) => {}
+            Ok(Some((kind, id))) => return Err(ExtractFault::DuplicateId { kind, id }),
+            Err(_) => return Err(ExtractFault::OutOfMemory),
         }
         let counts = count(&lists);
         if let Some((what, count)) = first_past(&counts) {

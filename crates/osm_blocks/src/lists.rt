@@ -1,6 +1,6 @@
 //! The objects of all blocks.
 
-ghost use Rattle.std.specs.Prelude.{◌≡◌, ◌+◌, ◌<◌, ◌^◌, false, None, length, All, IfErr, OnOk};
+ghost use Rattle.std.specs.Prelude.{◌≡◌, ◌+◌, ◌<◌, ◌^◌, false, None, length, All, IfOk, IfErr, OnOk};
 ghost use Rattle.osm_model.specs.OsmNode.{IsPlaced};
 ghost use Rattle.osm_objects.specs.Seen.{seen_objects};
 ghost use Rattle.osm_blocks.specs.Faults.{is_read};
@@ -9,11 +9,11 @@ ghost use Rattle.osm_blocks.specs.Extracts.{objects_in, lists_of};
 ghost use Rattle.osm_blocks.specs.Steps.{AddsObjects, OrdersAll, AreRising};
 
 use crate::fault::{ExtractFault, meant, spelled};
-use crate::order::order;
+use crate::order::{order_nodes, order_relations, order_ways};
 use osm_messages::read_block;
-use osm_model::{Extract, MemberKind, Nodes, Relations, Ways};
+use osm_model::{Extract, MemberKind};
 use osm_objects::{ObjectLists, add_objects};
-use std::alloc::Global;
+use std::alloc::{AllocError, Global};
 
 /// Adds the objects of a data block, whose first byte stands at `at`.
 pub fn add_block(
@@ -24,7 +24,7 @@ pub fn add_block(
 ) -> Result<(), ExtractFault>
     requires { at + length bytes.now < 2 ^ 64 }
     ensures objects { AddsObjects (seen_objects lists.old) (seen_objects lists.new) result (objects_in at bytes.now) }
-    ensures placed { All IsPlaced lists.old.nodes.items → OnOk result (All IsPlaced lists.new.nodes.items) }
+    ensures placed { All IsPlaced lists.old.nodes → OnOk result (All IsPlaced lists.new.nodes) }
     ensures no_read { IfErr result (λ fault. is_read fault ≡ false) }
 {
     let block = match read_block(alloc, bytes, at) {
@@ -38,25 +38,28 @@ pub fn add_block(
 }
 
 /// Puts the lists in order of id, or finds the first kind with an id that stands twice, and the least such id.
-pub fn order_all(lists: &mut ObjectLists) -> Option<(MemberKind, i64)>
-    ensures { OrdersAll (seen_objects lists.old) (seen_objects lists.new) result }
+pub fn order_all(
+    alloc: Global,
+    lists: &mut ObjectLists,
+) -> Result<Option<(MemberKind, i64)>, AllocError>
+    ensures { IfOk result (λ found. OrdersAll (seen_objects lists.old) (seen_objects lists.new) found) }
 {
-    if let Some(id) = order(&mut lists.nodes) {
-        return Some((MemberKind::Node, id));
+    if let Some(id) = order_nodes(alloc, &mut lists.nodes)? {
+        return Ok(Some((MemberKind::Node, id)));
     }
-    if let Some(id) = order(&mut lists.ways) {
-        return Some((MemberKind::Way, id));
+    if let Some(id) = order_ways(&mut lists.ways) {
+        return Ok(Some((MemberKind::Way, id)));
     }
-    if let Some(id) = order(&mut lists.relations) {
-        return Some((MemberKind::Relation, id));
+    if let Some(id) = order_relations(&mut lists.relations) {
+        return Ok(Some((MemberKind::Relation, id)));
     }
-    None
+    Ok(None)
 }
 
 /// The extract of lists that are in order.
 pub fn extract_of(lists: ObjectLists) -> Extract
     requires rising { AreRising (seen_objects lists) }
-    requires placed { All IsPlaced lists.nodes.items }
+    requires placed { All IsPlaced lists.nodes }
     requires within { first_past (counts_of (seen_objects lists)) ≡ None }
     ensures { lists_of result ≡ seen_objects lists }
 {
@@ -66,8 +69,8 @@ pub fn extract_of(lists: ObjectLists) -> Extract
         relations,
     } = lists;
     Extract {
-        nodes: Nodes::from_vec(nodes),
-        ways: Ways::from_vec(ways),
-        relations: Relations::from_vec(relations),
+        nodes,
+        ways,
+        relations,
     }
 }

@@ -1,76 +1,83 @@
 //! Objects in order of id.
 
-ghost use Rattle.std.specs.Prelude.{◌≡◌, ℤ};
+ghost use Rattle.std.specs.Prelude.{◌≡◌, IfOk};
 ghost use Rattle.osm_blocks.specs.Extracts.{node_id, way_id, relation_id};
-ghost use Rattle.osm_blocks.specs.Steps.{all_rise, next_twice, Orders};
+ghost use Rattle.osm_blocks.specs.Steps.{next_twice, Orders};
 
-use osm_model::{OsmNode, OsmRelation, OsmWay};
+use osm_model::{Nodes, Relations, Ways};
+use std::alloc::{AllocError, Global};
 
-/// What has an id.
-pub trait HasId {
-    ghost id_of: { Self → ℤ };
-
-    fn id(&self) -> i64
-        ensures { result ≡ id_of self.now };
-}
-
-impl HasId for OsmNode {
-    ghost id_of = { node_id };
-
-    fn id(&self) -> i64 {
-        self.id
-    }
-}
-
-impl HasId for OsmWay {
-    ghost id_of = { way_id };
-
-    fn id(&self) -> i64 {
-        self.id
-    }
-}
-
-impl HasId for OsmRelation {
-    ghost id_of = { relation_id };
-
-    fn id(&self) -> i64 {
-        self.id
-    }
-}
-
-/// Whether each id is below the next one.
-fn all_rise<T: HasId>(list: &[T]) -> bool
-    ensures { result ≡ all_rise T.id_of list.now }
+/// The first id of a node that the next one has too.
+fn node_twice(nodes: &Nodes) -> Option<i64>
+    ensures { result ≡ next_twice node_id nodes.now }
 {
-    for i in 1..list.len() {
-        if list[i - 1].id().cmp(&list[i].id()).is_ge() {
-            return false;
-        }
-    }
-    true
-}
-
-/// The first id that the next one is too.
-fn next_twice<T: HasId>(list: &[T]) -> Option<i64>
-    ensures { result ≡ next_twice T.id_of list.now }
-{
-    for i in 1..list.len() {
-        let id = list[i - 1].id();
-        if id.cmp(&list[i].id()).is_eq() {
+    for i in 1..nodes.len() {
+        let id = nodes.id_at(i - 1);
+        if id.cmp(&nodes.id_at(i)).is_eq() {
             return Some(id);
         }
     }
     None
 }
 
-/// Puts a list in order of id, or finds the least id that stands twice. A list that is in order already, as in nearly
-/// all files, is looked through once. Takes no memory.
-pub fn order<T: HasId>(list: &mut Vec<T>) -> Option<i64>
-    ensures { Orders T.id_of list.old.items list.new.items result }
+/// Puts nodes in order of id, or finds the least id that stands twice. A list that is in order already, as in nearly all
+/// files, is looked through once.
+pub fn order_nodes(alloc: Global, nodes: &mut Nodes) -> Result<Option<i64>, AllocError>
+    ensures { IfOk result (λ found. Orders node_id nodes.old nodes.new found) }
 {
-    if all_rise(list) {
+    if nodes.rises() {
+        return Ok(None);
+    }
+    nodes.sort_by_id(alloc)?;
+    Ok(node_twice(nodes))
+}
+
+/// The first id of a way that the next one has too.
+fn way_twice(ways: &Ways) -> Option<i64>
+    ensures { result ≡ next_twice way_id ways.now }
+{
+    for i in 1..ways.len() {
+        let id = ways.id_at(i - 1);
+        if id.cmp(&ways.id_at(i)).is_eq() {
+            return Some(id);
+        }
+    }
+    None
+}
+
+/// Puts ways in order of id, or finds the least id that stands twice. A list that is in order already, as in nearly all
+/// files, is looked through once. Takes no memory.
+pub fn order_ways(ways: &mut Ways) -> Option<i64>
+    ensures { Orders way_id ways.old ways.new result }
+{
+    if ways.rises() {
         return None;
     }
-    list.sort_unstable_by_key(|object| object.id());
-    next_twice(list)
+    ways.sort_by_id();
+    way_twice(ways)
+}
+
+/// The first id of a relation that the next one has too.
+fn relation_twice(relations: &Relations) -> Option<i64>
+    ensures { result ≡ next_twice relation_id relations.now }
+{
+    for i in 1..relations.len() {
+        let id = relations.id_at(i - 1);
+        if id.cmp(&relations.id_at(i)).is_eq() {
+            return Some(id);
+        }
+    }
+    None
+}
+
+/// Puts relations in order of id, or finds the least id that stands twice. A list that is in order already, as in nearly all
+/// files, is looked through once. Takes no memory.
+pub fn order_relations(relations: &mut Relations) -> Option<i64>
+    ensures { Orders relation_id relations.old relations.new result }
+{
+    if relations.rises() {
+        return None;
+    }
+    relations.sort_by_id();
+    relation_twice(relations)
 }

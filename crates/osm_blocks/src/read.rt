@@ -68,7 +68,7 @@ pub fn read_extract<H: Host>(alloc: Global, host: &mut H) -> Result<Extract, Ext
     loop {
         match add_next(alloc, host, at, &mut draft) {
             Ok(Some(end)) => at = end,
-            Ok(None) => return draft.finish(at),
+            Ok(None) => return draft.finish(alloc, at),
             Err(fault) => return Err(fault),
         }
     }

@@ -5,7 +5,7 @@
 
 use crate::read::read_extract;
 use host_port::{Bytes, Host, MemHost, Text};
-use osm_model::{Extract, MemberKind, value};
+use osm_model::{Extract, MemberKind, MembersView};
 use std::alloc::{AllocError, Global};
 use std::test::Fail;
 
@@ -43,47 +43,52 @@ fn extract_of(alloc: Global, data: &[u8]) -> Result<Option<Extract>, AllocError>
 }
 
 fn has_its_nodes(extract: &Extract) -> bool {
-    match extract.nodes.as_slice() {
-        [one, two] => {
-            (one.id, one.lat, one.lon) == (1, 3, -4)
-                && one.tags.is_empty()
-                && (two.id, two.lat, two.lon) == (2, 5, 6)
-                && value(&two.tags, "barrier") == Some("gate")
-        }
-        _ => false,
+    let nodes = &extract.nodes;
+    if nodes.len() != 2 {
+        return false;
     }
+    let one = nodes.at(0);
+    let two = nodes.at(1);
+    (one.id(), one.lat(), one.lon()) == (1, 3, -4)
+        && one.tags().is_empty()
+        && (two.id(), two.lat(), two.lon()) == (2, 5, 6)
+        && two.tags().value("barrier") == Some("gate")
 }
 
 fn has_its_way(extract: &Extract) -> bool {
-    match extract.ways.as_slice() {
-        [way] => {
-            way.id == 7
-                && way.refs.as_slice() == [1, 2, 1].as_slice()
-                && value(&way.tags, "highway") == Some("residential")
-        }
-        _ => false,
+    let ways = &extract.ways;
+    if ways.len() != 1 {
+        return false;
     }
+    let way = ways.at(0);
+    way.id() == 7
+        && way.refs() == [1, 2, 1].as_slice()
+        && way.tags().value("highway") == Some("residential")
+}
+
+fn has_its_members(members: &MembersView<'_>) -> bool {
+    if members.len() != 2 {
+        return false;
+    }
+    let node = members.at(0);
+    let way = members.at(1);
+    node.kind() == MemberKind::Node
+        && node.id() == 1
+        && node.role().is_empty()
+        && way.kind() == MemberKind::Way
+        && way.id() == 7
+        && way.role() == "gate"
 }
 
 fn has_its_relation(extract: &Extract) -> bool {
-    match extract.relations.as_slice() {
-        [relation] => {
-            relation.id == 9
-                && value(&relation.tags, "type") == Some("route")
-                && match relation.members.as_slice() {
-                    [node, way] => {
-                        node.kind == MemberKind::Node
-                            && node.id == 1
-                            && node.role.as_str().is_empty()
-                            && way.kind == MemberKind::Way
-                            && way.id == 7
-                            && way.role.as_str() == "gate"
-                    }
-                    _ => false,
-                }
-        }
-        _ => false,
+    let relations = &extract.relations;
+    if relations.len() != 1 {
+        return false;
     }
+    let relation = relations.at(0);
+    relation.id() == 9
+        && relation.tags().value("type") == Some("route")
+        && has_its_members(relation.members())
 }
 
 // What of the extract is as it should be: its nodes, its way, its relation.

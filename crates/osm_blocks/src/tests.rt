@@ -3,7 +3,7 @@ use crate::fault::{Counted, ExtractFault};
 use crate::read::read_extract;
 use host_port::{Bytes, Host, MemHost, Text};
 use osm_messages::read_block;
-use osm_model::{Extract, MemberKind, TagText, value};
+use osm_model::{Extract, MemberKind, TagText};
 use osm_objects::{ObjectLists, add_objects};
 use std::alloc::{AllocError, Global};
 use std::ops::Range;
@@ -100,26 +100,20 @@ fn fault_of(
 
 // Whether these are nodes 1 and 2 at latitude 0 and these longitudes, and residential way 10 with these refs.
 fn shows(extract: &Extract, longitudes: (i32, i32), refs: [i64; 2]) -> bool {
-    let nodes = match extract.nodes.as_slice() {
-        [one, two] => {
-            one.id == 1
-                && one.lat == 0
-                && one.lon == longitudes.0
-                && two.id == 2
-                && two.lat == 0
-                && two.lon == longitudes.1
-        }
-        _ => false,
-    };
-    let ways = match extract.ways.as_slice() {
-        [way] => {
-            way.id == 10
-                && way.refs.as_slice() == refs.as_slice()
-                && value(&way.tags, "highway") == Some("residential")
-        }
-        _ => false,
-    };
-    nodes && ways && extract.relations.is_empty()
+    let nodes = &extract.nodes;
+    let ways = &extract.ways;
+    if nodes.len() != 2 || ways.len() != 1 {
+        return false;
+    }
+    let one = nodes.at(0);
+    let two = nodes.at(1);
+    let way = ways.at(0);
+    (one.id(), one.lat(), one.lon()) == (1, 0, longitudes.0)
+        && (two.id(), two.lat(), two.lon()) == (2, 0, longitudes.1)
+        && way.id() == 10
+        && way.refs() == refs.as_slice()
+        && way.tags().value("highway") == Some("residential")
+        && extract.relations.is_empty()
 }
 
 // Whether a file of these parts is that extract.

@@ -1,5 +1,5 @@
 -- A loop over the objects of a block: those so far, and what is left.
-use Rattle.std.proofs.Common.{◌≡◌, ℕ, ◌+◌, ◌<◌, ◌≤◌, List, [], ◌∷◌, ◌++◌, length, map, get_or, drop, Option, Some, None, Result, Ok, Err, Vec, Bor, Global, zero, suc, subst, arith, refl, sym, ap, ◌∙◌, append_assoc, append-nil}
+use Rattle.std.proofs.Common.{◌≡◌, ℕ, ◌+◌, ◌<◌, ◌≤◌, ℤ, List, [], ◌∷◌, ◌++◌, length, map, get_or, drop, Option, Some, None, Result, Ok, Err, Vec, Bor, Global, zero, suc, subst, arith, refl, sym, ap, ◌∙◌, append_assoc, append-nil}
 use Rattle.std.proofs.lemmas.List.{drop_all, drop_more, drop-map}
 use Rattle.std.specs.List.{All}
 use Rattle.std.specs.Option.{option_map}
@@ -14,9 +14,12 @@ use Rattle.osm_messages.specs.Groups.{Object, HasNumbers}
 use Rattle.osm_messages.specs.Blocks.{Block}
 use Rattle.osm_messages.specs.Numbers.{shape_of, numbers_in}
 use Rattle.osm_messages.specs.Lists.{Lists, listed}
+use Rattle.osm_model.specs.declared.tags.Tag.{Tag}
 use Rattle.osm_model.specs.declared.nodes.OsmNode.{OsmNode}
 use Rattle.osm_model.specs.declared.ways.OsmWay.{OsmWay}
+use Rattle.osm_model.specs.declared.relations.Member.{Member}
 use Rattle.osm_model.specs.declared.relations.OsmRelation.{OsmRelation}
+use Rattle.osm_objects.specs.declared.nodes.Spot.{Spot}
 use Rattle.osm_objects.specs.declared.fault.ObjectFault.{ObjectFault}
 use Rattle.osm_objects.specs.declared.fault.ObjectFault.TheVariants.{MissingField}
 use Rattle.osm_objects.specs.declared.scale.Scale.{Scale}
@@ -25,6 +28,7 @@ use Rattle.osm_objects.specs.Nodes.{node_of, dense_of}
 use Rattle.osm_objects.specs.Ways.{way_of}
 use Rattle.osm_objects.specs.Relations.{relation_of}
 use Rattle.osm_objects.specs.Answers.{after}
+use Rattle.osm_objects.specs.Seen.{node_with, way_with, relation_with}
 use Rattle.osm_objects.specs.Objects.{Objects, no_objects, just_nodes, just_ways, just_relations, joined, behind, spelled, lists_in, meaning_of, with_object, with_objects, scale_of, table_of, objects_of}
 
 -- ---- objects behind objects
@@ -121,6 +125,9 @@ with_object-is : (table : List (List ℕ)) (scale : Scale) (old : Objects) (obje
 with_object-is table scale old object kind lists e f =
     ap (λ k. behind old (meaning_of k table scale object.at (lists_in object))) e ∙ ap (λ l. behind old (meaning_of kind table scale object.at l)) f
 
+same_last : {A : Type 0} (xs : List A) (x y : A) → x ≡ y → xs ++ x ∷ [] ≡ xs ++ y ∷ []
+same_last xs x y e = ap (λ z. xs ++ z ∷ []) e
+
 abbrev pub Read : Object → Lists → Type 0
 Read object lists = listed (numbers_in (shape_of object.kind) object.at object.bytes) ≡ Ok lists
 
@@ -134,6 +141,18 @@ node-added table scale old object lists node items e read f pushed =
     with_object-is table scale old object kinds.Node lists e (lists_in-is object lists read) ∙ ap (λ r. behind old (r >>= λ node. Ok (just_nodes (node ∷ [])))) f
     ∙ ap (λ o. Ok o) (same_objects (joined old (just_nodes (node ∷ []))) (record_of items old.ways old.relations) (sym pushed) (append-nil old.ways) (append-nil old.relations))
 
+-- the node of these parts was put behind the others
+pub node-pushed : (table : List (List ℕ)) (scale : Scale) (old : Objects) (object : Object) (lists : Lists) (spot : Spot) (u v w : ℤ) (tags tags' : List Tag) (items : List OsmNode) → object.kind ≡ kinds.Node → Read object lists → node_of table scale object.at lists ≡ Ok (node_with spot tags)
+    → u ≡ spot.id → v ≡ spot.lat → w ≡ spot.lon → tags' ≡ tags → items ≡ old.nodes ++ record { id = u; lat = v; lon = w; tags = tags' } ∷ [] → with_object table scale old object ≡ Ok (record_of items old.ways old.relations)
+node-pushed table scale old object lists spot u v w tags tags' items e read f a b c d pushed =
+    node-added table scale old object lists (node_with spot tags) items e read f (pushed ∙ same_last old.nodes _ _ (parts u v w tags' spot.id spot.lat spot.lon tags a b c d))
+  where
+    made : ℤ → ℤ → ℤ → List Tag → OsmNode
+    made id lat lon tags = record { id = id; lat = lat; lon = lon; tags = tags }
+
+    parts : (u v w : ℤ) (s : List Tag) (x y z : ℤ) (t : List Tag) → u ≡ x → v ≡ y → w ≡ z → s ≡ t → made u v w s ≡ made x y z t
+    parts u v w s x y z t a b c d = rw (a, b, c, d) refl
+
 pub way-fault : (table : List (List ℕ)) (scale : Scale) (old : Objects) (object : Object) (lists : Lists) (d : ObjectFault) → object.kind ≡ kinds.Way → Read object lists → way_of table object.at lists ≡ Err d → with_object table scale old object ≡ Err d
 way-fault table scale old object lists d e read f =
     with_object-is table scale old object kinds.Way lists e (lists_in-is object lists read) ∙ ap (λ r. behind old (r >>= λ way. Ok (just_ways (way ∷ [])))) f
@@ -144,6 +163,15 @@ way-added table scale old object lists way items e read f pushed =
     with_object-is table scale old object kinds.Way lists e (lists_in-is object lists read) ∙ ap (λ r. behind old (r >>= λ way. Ok (just_ways (way ∷ [])))) f
     ∙ ap (λ o. Ok o) (same_objects (joined old (just_ways (way ∷ []))) (record_of old.nodes items old.relations) (append-nil old.nodes) (sym pushed) (append-nil old.relations))
 
+-- the way of these parts was put behind the others
+pub way-pushed : (table : List (List ℕ)) (scale : Scale) (old : Objects) (object : Object) (lists : Lists) (id u : ℤ) (tags tags' : List Tag) (refs refs' : List ℤ) (items : List OsmWay) → object.kind ≡ kinds.Way → Read object lists → way_of table object.at lists ≡ Ok (way_with id tags refs)
+    → u ≡ id → tags' ≡ tags → refs' ≡ refs → items ≡ old.ways ++ way_with u tags' refs' ∷ [] → with_object table scale old object ≡ Ok (record_of old.nodes items old.relations)
+way-pushed table scale old object lists id u tags tags' refs refs' items e read f a b c pushed =
+    way-added table scale old object lists (way_with id tags refs) items e read f (pushed ∙ same_last old.ways _ _ (parts u id tags' tags refs' refs a b c))
+  where
+    parts : (u x : ℤ) (s t : List Tag) (r q : List ℤ) → u ≡ x → s ≡ t → r ≡ q → way_with u s r ≡ way_with x t q
+    parts u x s t r q a b c = rw (a, b, c) refl
+
 pub relation-fault : (table : List (List ℕ)) (scale : Scale) (old : Objects) (object : Object) (lists : Lists) (d : ObjectFault) → object.kind ≡ kinds.Relation → Read object lists → relation_of table object.at lists ≡ Err d → with_object table scale old object ≡ Err d
 relation-fault table scale old object lists d e read f =
     with_object-is table scale old object kinds.Relation lists e (lists_in-is object lists read) ∙ ap (λ r. behind old (r >>= λ relation. Ok (just_relations (relation ∷ [])))) f
@@ -153,6 +181,15 @@ pub relation-added : (table : List (List ℕ)) (scale : Scale) (old : Objects) (
 relation-added table scale old object lists relation items e read f pushed =
     with_object-is table scale old object kinds.Relation lists e (lists_in-is object lists read) ∙ ap (λ r. behind old (r >>= λ relation. Ok (just_relations (relation ∷ [])))) f
     ∙ ap (λ o. Ok o) (same_objects (joined old (just_relations (relation ∷ []))) (record_of old.nodes old.ways items) (append-nil old.nodes) (append-nil old.ways) (sym pushed))
+
+-- the relation of these parts was put behind the others
+pub relation-pushed : (table : List (List ℕ)) (scale : Scale) (old : Objects) (object : Object) (lists : Lists) (id u : ℤ) (tags tags' : List Tag) (members members' : List Member) (items : List OsmRelation) → object.kind ≡ kinds.Relation → Read object lists → relation_of table object.at lists ≡ Ok (relation_with id tags members)
+    → u ≡ id → tags' ≡ tags → members' ≡ members → items ≡ old.relations ++ relation_with u tags' members' ∷ [] → with_object table scale old object ≡ Ok (record_of old.nodes old.ways items)
+relation-pushed table scale old object lists id u tags tags' members members' items e read f a b c pushed =
+    relation-added table scale old object lists (relation_with id tags members) items e read f (pushed ∙ same_last old.relations _ _ (parts u id tags' tags members' members a b c))
+  where
+    parts : (u x : ℤ) (s t : List Tag) (r q : List Member) → u ≡ x → s ≡ t → r ≡ q → relation_with u s r ≡ relation_with x t q
+    parts u x s t r q a b c = rw (a, b, c) refl
 
 -- the nodes of a dense message, behind those so far
 many_nodes : (old : Objects) (m : Result (List OsmNode) ObjectFault) → behind old (m >>= λ nodes. Ok (just_nodes nodes)) ≡ (after old.nodes m >>= λ items. Ok (record_of items old.ways old.relations))

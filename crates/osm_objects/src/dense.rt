@@ -14,7 +14,7 @@ use crate::scale::Scale;
 use crate::sums::sum_up;
 use crate::texts::Texts;
 use osm_messages::NumberLists;
-use osm_model::OsmNode;
+use osm_model::{Nodes, Tag};
 use std::alloc::Global;
 
 /// Sums of differences. They keep their memory from one object to the next.
@@ -34,27 +34,21 @@ fn add_nodes(
     at: u64,
     sums: &Sums,
     keys_values: &[u64],
-    nodes: &mut Vec<OsmNode>,
+    tags: &mut Vec<Tag>,
+    nodes: &mut Nodes,
 ) -> Result<(), ObjectFault>
     requires lats { length sums.now.lats.items ≡ length sums.now.ids.items }
     requires lons { length sums.now.lons.items ≡ length sums.now.ids.items }
     requires groups { IsOk (groups_of at (length sums.now.ids.items) keys_values.now) }
-    ensures nodes { Becomes result nodes.new.items (after nodes.old.items (nodes_read (table_of texts.old) scale at sums.now.ids.items sums.now.lats.items sums.now.lons.items keys_values.now)) }
+    ensures nodes { Becomes result nodes.new (after nodes.old (nodes_read (table_of texts.old) scale at sums.now.ids.items sums.now.lats.items sums.now.lons.items keys_values.now)) }
     ensures table { table_of texts.new ≡ table_of texts.old }
 {
     let mut rest = keys_values;
     let mut misplaced: Option<i64> = None;
-    nodes.reserve(sums.ids.len())?;
     for i in 0..sums.ids.len() {
-        let (tags, behind) = read_group(alloc, texts, at, rest)?;
-        rest = behind;
+        rest = read_group(alloc, texts, at, rest, tags)?;
         match scale.place(sums.lats[i], sums.lons[i]) {
-            Some((lat, lon)) => nodes.push(OsmNode {
-                id: sums.ids[i],
-                lat,
-                lon,
-                tags,
-            })?,
+            Some((lat, lon)) => nodes.push_parts(sums.ids[i], lat, lon, tags.as_slice())?,
             None => misplaced = misplaced.or(Some(sums.ids[i])),
         }
     }
@@ -73,9 +67,10 @@ pub fn add_dense(
     at: u64,
     lists: &NumberLists,
     sums: &mut Sums,
-    nodes: &mut Vec<OsmNode>,
+    tags: &mut Vec<Tag>,
+    nodes: &mut Nodes,
 ) -> Result<(), ObjectFault>
-    ensures nodes { Becomes result nodes.new.items (after nodes.old.items (dense_of (table_of texts.old) scale at (seen_lists lists.now))) }
+    ensures nodes { Becomes result nodes.new (after nodes.old (dense_of (table_of texts.old) scale at (seen_lists lists.now))) }
     ensures table { table_of texts.new ≡ table_of texts.old }
 {
     check_even(at, &lists.first, &lists.eighth)?;
@@ -84,5 +79,5 @@ pub fn add_dense(
     sum_up(at, &lists.first, &mut sums.ids)?;
     sum_up(at, &lists.eighth, &mut sums.lats)?;
     sum_up(at, &lists.ninth, &mut sums.lons)?;
-    add_nodes(alloc, texts, scale, at, sums, &lists.tenth, nodes)
+    add_nodes(alloc, texts, scale, at, sums, &lists.tenth, tags, nodes)
 }

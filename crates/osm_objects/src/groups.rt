@@ -7,7 +7,7 @@ ghost use Rattle.osm_objects.specs.Seen.{table_of};
 
 use crate::fault::ObjectFault;
 use crate::texts::Texts;
-use osm_model::Tags;
+use osm_model::Tag;
 use std::alloc::Global;
 
 /// Whether there is a group for each of so many nodes of the dense message at `at`.
@@ -37,28 +37,29 @@ pub fn check_groups(at: u64, count: usize, numbers: &[u64]) -> Result<(), Object
     }
 }
 
-/// The kept tags of the group that the numbers begin with, and the numbers behind it. Where there is no number it is
-/// an empty group.
+/// Puts the kept tags of the group that the numbers begin with into the list, in place of what it held, and gives the
+/// numbers behind the group. Where there is no number it is an empty group.
 pub fn read_group<'n>(
     alloc: Global,
     texts: &mut Texts<'_>,
     at: u64,
     numbers: &'n [u64],
-) -> Result<(Tags, &'n [u64]), ObjectFault>
-    ensures tags { Answers (λ found. (found.0, found.1.now)) result (group_read (table_of texts.old) at numbers.now) }
+    tags: &mut Vec<Tag>,
+) -> Result<&'n [u64], ObjectFault>
+    ensures tags { Answers (λ behind. (tags.new.items, behind.now)) result (group_read (table_of texts.old) at numbers.now) }
     ensures table { table_of texts.new ≡ table_of texts.old }
 {
-    let mut tags = Vec::new(alloc);
+    tags.clear();
     let mut rest = numbers;
     while let Some((key, behind)) = rest.split_first() {
         if *key == 0 {
-            return Ok((Tags::from_vec(tags), behind));
+            return Ok(behind);
         }
         let Some((value, behind)) = behind.split_first() else {
-            return Ok((Tags::from_vec(tags), behind));
+            return Ok(behind);
         };
-        texts.add_tag(alloc, at, *key, *value, &mut tags)?;
+        texts.add_tag(alloc, at, *key, *value, tags)?;
         rest = behind;
     }
-    Ok((Tags::from_vec(tags), rest))
+    Ok(rest)
 }

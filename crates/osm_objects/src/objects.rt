@@ -9,21 +9,21 @@ ghost use Rattle.osm_objects.specs.Seen.{table_of, seen_objects};
 
 use crate::dense::{Sums, add_dense};
 use crate::fault::ObjectFault;
-use crate::nodes::read_node;
+use crate::nodes::{Spot, read_node};
 use crate::relations::read_relation;
 use crate::scale::Scale;
 use crate::texts::Texts;
 use crate::ways::read_way;
 use osm_messages::{NumberLists, ObjectKind, RawBlock, RawObject, read_numbers};
-use osm_model::{MemberKind, OsmNode, OsmRelation, OsmWay};
+use osm_model::{Member, MemberKind, Nodes, Relations, Tag, Ways};
 use std::alloc::Global;
 
 /// The objects of blocks, each list in the order of the bytes.
 #[derive(Drop)]
 pub struct ObjectLists {
-    pub nodes: Vec<OsmNode>,
-    pub ways: Vec<OsmWay>,
-    pub relations: Vec<OsmRelation>,
+    pub nodes: Nodes,
+    pub ways: Ways,
+    pub relations: Relations,
 }
 
 impl ObjectLists {
@@ -32,19 +32,21 @@ impl ObjectLists {
         ensures { seen_objects result ≡ no_objects }
     {
         ObjectLists {
-            nodes: Vec::new(alloc),
-            ways: Vec::new(alloc),
-            relations: Vec::new(alloc),
+            nodes: Nodes::new(alloc),
+            ways: Ways::new(alloc),
+            relations: Relations::new(alloc),
         }
     }
 }
 
-/// Room for the numbers of one object. It is kept from one object to the next.
+/// Room for the parts of one object. It is kept from one object to the next.
 #[derive(Drop)]
 struct Room {
     lists: NumberLists,
     sums: Sums,
     kinds: Vec<MemberKind>,
+    tags: Vec<Tag>,
+    members: Vec<Member>,
 }
 
 /// Puts what an object means behind the others.
@@ -66,9 +68,11 @@ fn add_object(
     }
     let at = object.at;
     match object.kind {
-        ObjectKind::Node => lists
-            .nodes
-            .push(read_node(alloc, texts, scale, at, &room.lists)?)?,
+        ObjectKind::Node => {
+            let spot = read_node(alloc, texts, scale, at, &room.lists, &mut room.tags)?;
+            let Spot { id, lat, lon } = spot;
+            lists.nodes.push_parts(id, lat, lon, room.tags.as_slice())?;
+        }
         ObjectKind::Dense => add_dense(
             alloc,
             texts,
@@ -76,17 +80,31 @@ fn add_object(
             at,
             &room.lists,
             &mut room.sums,
+            &mut room.tags,
             &mut lists.nodes,
         )?,
-        ObjectKind::Way => lists.ways.push(read_way(alloc, texts, at, &room.lists)?)?,
-        ObjectKind::Relation => lists.relations.push(read_relation(
-            alloc,
-            texts,
-            at,
-            &room.lists,
-            &mut room.sums.ids,
-            &mut room.kinds,
-        )?)?,
+        ObjectKind::Way => {
+            let refs = &mut room.sums.ids;
+            let id = read_way(alloc, texts, at, &room.lists, &mut room.tags, refs)?;
+            let refs = room.sums.ids.as_slice();
+            lists.ways.push_parts(id, room.tags.as_slice(), refs)?;
+        }
+        ObjectKind::Relation => {
+            let id = read_relation(
+                alloc,
+                texts,
+                at,
+                &room.lists,
+                &mut room.sums.ids,
+                &mut room.kinds,
+                &mut room.tags,
+                &mut room.members,
+            )?;
+            let members = room.members.as_slice();
+            lists
+                .relations
+                .push_parts(id, room.tags.as_slice(), members)?;
+        }
     }
     Ok(())
 }
@@ -115,7 +133,7 @@ pub fn add_objects(
 ) -> Result<(), ObjectFault>
     requires { Spelled (seen_block block.now) }
     ensures objects { Becomes result (seen_objects lists.new) (behind (seen_objects lists.old) (objects_of at (seen_block block.now))) }
-    ensures placed { All IsPlaced lists.old.nodes.items → OnOk result (All IsPlaced lists.new.nodes.items) }
+    ensures placed { All IsPlaced lists.old.nodes → OnOk result (All IsPlaced lists.new.nodes) }
 {
     let Some(table) = &block.texts else {
         return Err(ObjectFault::MissingField { at, number: 1 });
@@ -130,6 +148,8 @@ pub fn add_objects(
             lons: Vec::new(alloc),
         },
         kinds: Vec::new(alloc),
+        tags: Vec::new(alloc),
+        members: Vec::new(alloc),
     };
     for i in 0..block.objects.len() {
         add_object(

@@ -4,7 +4,7 @@ ghost use Rattle.osm_messages.specs.Lists.{seen_lists};
 ghost use Rattle.osm_objects.specs.Steps.{each};
 ghost use Rattle.osm_objects.specs.Relations.{kind_of, members_of, relation_of};
 ghost use Rattle.osm_objects.specs.Answers.{Answers, Becomes};
-ghost use Rattle.osm_objects.specs.Seen.{table_of};
+ghost use Rattle.osm_objects.specs.Seen.{table_of, relation_with};
 
 use crate::fault::ObjectFault;
 use crate::parts::{check_even, one_number};
@@ -12,7 +12,7 @@ use crate::sums::sum_up;
 use crate::tags::read_tags;
 use crate::texts::Texts;
 use osm_messages::NumberLists;
-use osm_model::{Member, MemberKind, Members, OsmRelation};
+use osm_model::{Member, MemberKind, Tag};
 use std::alloc::Global;
 
 /// The kind of a member with this type.
@@ -38,7 +38,7 @@ fn read_kinds(at: u64, types: &[u64], kinds: &mut Vec<MemberKind>) -> Result<(),
     Ok(())
 }
 
-/// The members of these roles, ids and kinds, of the relation at `at`.
+/// Puts the members of these roles, ids and kinds, of the relation at `at`, into the list, in place of what it held.
 fn read_members(
     alloc: Global,
     texts: &mut Texts<'_>,
@@ -46,13 +46,14 @@ fn read_members(
     roles: &[u64],
     ids: &[i64],
     kinds: &[MemberKind],
-) -> Result<Members, ObjectFault>
+    members: &mut Vec<Member>,
+) -> Result<(), ObjectFault>
     requires ids { length ids.now ≡ length roles.now }
     requires kinds { length kinds.now ≡ length roles.now }
-    ensures members { Answers (λ members. members) result (members_of (table_of texts.old) at roles.now ids.now kinds.now) }
+    ensures members { Becomes result members.new.items (members_of (table_of texts.old) at roles.now ids.now kinds.now) }
     ensures table { table_of texts.new ≡ table_of texts.old }
 {
-    let mut members = Vec::with_capacity(alloc, roles.len())?;
+    members.clear();
     for i in 0..roles.len() {
         let role = texts.text(alloc, at, roles[i])?;
         members.push(Member {
@@ -61,11 +62,12 @@ fn read_members(
             id: ids[i],
         })?;
     }
-    Ok(Members::from_vec(members))
+    Ok(())
 }
 
 #[tactic(auto, unfolding(crate::specs::Relations::relation_of))]
-/// The relation of these numbers. Its first byte stands at `at`.
+/// The id of the relation of these numbers; its tags and members are put into the lists, in place of what they held. Its
+/// first byte stands at `at`.
 pub fn read_relation(
     alloc: Global,
     texts: &mut Texts<'_>,
@@ -73,8 +75,10 @@ pub fn read_relation(
     lists: &NumberLists,
     ids: &mut Vec<i64>,
     kinds: &mut Vec<MemberKind>,
-) -> Result<OsmRelation, ObjectFault>
-    ensures relation { Answers (λ relation. relation) result (relation_of (table_of texts.old) at (seen_lists lists.now)) }
+    tags: &mut Vec<Tag>,
+    members: &mut Vec<Member>,
+) -> Result<i64, ObjectFault>
+    ensures relation { Answers (λ id. relation_with id tags.new.items members.new.items) result (relation_of (table_of texts.old) at (seen_lists lists.now)) }
     ensures table { table_of texts.new ≡ table_of texts.old }
 {
     let id = one_number(at, 1, &lists.first)?;
@@ -83,11 +87,7 @@ pub fn read_relation(
     check_even(at, &lists.eighth, &lists.tenth)?;
     read_kinds(at, &lists.tenth, kinds)?;
     sum_up(at, &lists.ninth, ids)?;
-    let tags = read_tags(alloc, texts, at, &lists.second, &lists.third)?;
-    let members = read_members(alloc, texts, at, &lists.eighth, ids, kinds)?;
-    Ok(OsmRelation {
-        id: id.cast_signed(),
-        tags,
-        members,
-    })
+    read_tags(alloc, texts, at, &lists.second, &lists.third, tags)?;
+    read_members(alloc, texts, at, &lists.eighth, ids, kinds, members)?;
+    Ok(id.cast_signed())
 }

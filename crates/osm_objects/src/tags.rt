@@ -2,29 +2,30 @@
 ghost use Rattle.std.specs.Prelude.{◌≡◌, length};
 ghost use Rattle.std.specs.List.{zip};
 ghost use Rattle.osm_objects.specs.Tags.{tags_of};
-ghost use Rattle.osm_objects.specs.Answers.{Answers};
+ghost use Rattle.osm_objects.specs.Answers.{Becomes};
 ghost use Rattle.osm_objects.specs.Seen.{table_of};
 
 use crate::fault::ObjectFault;
 use crate::texts::Texts;
-use osm_model::Tags;
+use osm_model::Tag;
 use std::alloc::Global;
 
-/// The tags of these keys and values that are kept, of the object at `at`.
+/// Puts the tags of these keys and values that are kept, of the object at `at`, into the list, in place of what it held.
 pub fn read_tags(
     alloc: Global,
     texts: &mut Texts<'_>,
     at: u64,
     keys: &[u64],
     values: &[u64],
-) -> Result<Tags, ObjectFault>
+    tags: &mut Vec<Tag>,
+) -> Result<(), ObjectFault>
     requires { length keys.now ≡ length values.now }
-    ensures tags { Answers (λ tags. tags) result (tags_of (table_of texts.old) at (zip keys.now values.now)) }
+    ensures tags { Becomes result tags.new.items (tags_of (table_of texts.old) at (zip keys.now values.now)) }
     ensures table { table_of texts.new ≡ table_of texts.old }
 {
-    let mut tags = Vec::new(alloc);
+    tags.clear();
     for i in 0..keys.len() {
-        texts.add_tag(alloc, at, keys[i], values[i], &mut tags)?;
+        texts.add_tag(alloc, at, keys[i], values[i], tags)?;
     }
-    Ok(Tags::from_vec(tags))
+    Ok(())
 }

@@ -1,7 +1,7 @@
 use crate::fault::ObjectFault;
 use crate::objects::{ObjectLists, add_objects};
 use osm_messages::read_block;
-use osm_model::{MemberKind, value};
+use osm_model::MemberKind;
 use std::alloc::{AllocError, Global};
 use std::test::Fail;
 
@@ -157,8 +157,10 @@ fn dense_nodes(rt: HostRuntime) -> Result<(), Fail> {
     let lists = meaning(alloc, &bytes).ok().ok_or("refused")?;
     let places = [(1, 1, -1, 0), (3, 3, 0, 2)];
     assert_eq!(rt; lists.nodes.len(), 2);
-    for (node, (id, lat, lon, tags)) in lists.nodes.iter().zip(places) {
-        assert!(rt; node.id == id && node.lat == lat && node.lon == lon && node.tags.len() == tags);
+    for (i, (id, lat, lon, tags)) in places.iter().enumerate() {
+        let node = lists.nodes.at(i);
+        assert!(rt; (node.id(), node.lat(), node.lon()) == (*id, *lat, *lon));
+        assert_eq!(rt; node.tags().len(), *tags);
     }
     Ok(())
 }
@@ -170,7 +172,10 @@ fn latitude(alloc: Global, zigzag: u8, scalars: &[u8]) -> Result<Option<i32>, Al
     let Ok(lists) = meaning(alloc, &bytes) else {
         return Ok(None);
     };
-    Ok(lists.nodes.first().map(|node| node.lat))
+    if lists.nodes.is_empty() {
+        return Ok(None);
+    }
+    Ok(Some(lists.nodes.at(0).lat()))
 }
 
 #[test]
@@ -195,12 +200,11 @@ fn a_way_and_a_relation(rt: HostRuntime) -> Result<(), Fail> {
     ];
     let bytes = block_of(alloc, WAY, way.as_slice(), &[])?;
     let lists = meaning(alloc, &bytes).ok().ok_or("refused")?;
-    for way in &lists.ways {
-        assert_eq!(rt; way.id, -1);
-        assert_eq!(rt; way.refs.as_slice(), [1, 0].as_slice());
-        assert!(rt; value(&way.tags, "restriction:hgv") == Some("a"));
-    }
     assert_eq!(rt; lists.ways.len(), 1);
+    let way = lists.ways.at(0);
+    assert_eq!(rt; way.id(), -1);
+    assert_eq!(rt; way.refs(), [1, 0].as_slice());
+    assert!(rt; way.tags().value("restriction:hgv") == Some("a"));
     Ok(())
 }
 
@@ -222,14 +226,11 @@ fn members(rt: HostRuntime) -> Result<(), Fail> {
     let relation = [8, 5, 0x42, 1, 2, 0x4a, 1, 2, 0x52, 1, 1];
     let bytes = block_of(alloc, RELATION, relation.as_slice(), &[])?;
     let lists = meaning(alloc, &bytes).ok().ok_or("refused")?;
-    for relation in &lists.relations {
-        for member in relation.members.as_slice() {
-            assert!(rt;
-                member.kind == MemberKind::Way && member.id == 1 && member.role.as_str() == "a"
-            );
-        }
-    }
     assert_eq!(rt; lists.relations.len(), 1);
+    let relation = lists.relations.at(0);
+    assert_eq!(rt; relation.members().len(), 1);
+    let member = relation.members().at(0);
+    assert!(rt; member.kind() == MemberKind::Way && member.id() == 1 && member.role() == "a");
     Ok(())
 }
 

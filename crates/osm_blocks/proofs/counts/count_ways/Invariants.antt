@@ -4,8 +4,8 @@ use Rattle.osm_model.specs.Extract.{refs_in, tags_of_ways}
 use Rattle.osm_blocks.specs.Counts.{as_u64}
 use Rattle.osm_blocks.proofs.counts.count_ways.Given as goal
 
-abbrev pub invariant-loop-way : goal.invariant-loop-way
-invariant-loop-way l = record {
-  refs : l.refs ≡ as_u64 (refs_in (take l.way-index l.ways));
-  tags : l.tags ≡ as_u64 (tags_of_ways (take l.way-index l.ways));
+abbrev pub invariant-loop-i : goal.invariant-loop-i
+invariant-loop-i l = record {
+  refs : l.refs ≡ as_u64 (refs_in (take l.i l.ways));
+  tags : l.tags ≡ as_u64 (tags_of_ways (take l.i l.ways));
 }

@@ -27,7 +27,7 @@ returns-in-Ok-None-clause-bytes g c = λ input i p.
     let within = stands.within in
     let past = step.within input (l.others.input ∙ i) (l.place p) in
     let all : c.loop-end.at ≡ length input = omega arith in
-    let done = rw last.1 at c.finish.ensures in
+    let done = rw last.1 at c.finish.ensures.end in
     ReadTo-ends input c.loop-end.at (seen c.loop-end.draft) c.finish.result stands.read last.0 all done
 
 pub returns-in-Err-clause-bytes : goal.returns-in-Err-clause-bytes

@@ -1,4 +1,4 @@
-use Rattle.std.proofs.Common.{rules, ◌≡◌, ◌<◌, ◌∙◌, length, arith, ap, sym, refl, Ok, Err, List, ℤ, pos, to_z, of_z, w64, w32, FitsSigned, Vec, Global}
+use Rattle.std.proofs.Common.{rules, [], ◌∷◌, ◌++◌, ◌≡◌, ◌<◌, ◌∙◌, length, arith, ap, sym, refl, Ok, Err, List, ℤ, pos, to_z, of_z, w64, w32, FitsSigned}
 use Rattle.std.proofs.lemmas.Int.{to_z-of_z}
 use Rattle.std.proofs.lemmas.List.{get_or_read}
 use Rattle.osm_model.specs.declared.tags.Tag.{Tag}
@@ -8,7 +8,7 @@ use Rattle.osm_objects.specs.Seen.{table_of}
 use Rattle.osm_objects.proofs.Exits.{Becomes-exit}
 use Rattle.osm_objects.proofs.DenseLoop.{DenseSoFar-begun, DenseSoFar-end, turn-fault, turn-placed, turn-misplaced, whole-bad}
 use Rattle.osm_objects.proofs.dense.add_nodes.Goals as goal
-use Rattle.osm_objects.proofs.dense.add_nodes.Goals.{in-Some+in_ok-push-in-Some, in-None}
+use Rattle.osm_objects.proofs.dense.add_nodes.Goals.{in-Some+in_ok-push_parts-in-Some, in-None}
 
 abbrev node_of : ℤ → ℤ → ℤ → List Tag → OsmNode
 node_of id lat lon tags = record { id = id; lat = lat; lon = lon; tags = tags }
@@ -18,17 +18,17 @@ same_node id lat lon u v tags e f = rw (e, f) refl
 
 pub loop-i-init : goal.loop-i-init
 loop-i-init c =
-    rw c.in_ok-reserve.ensures.items (DenseSoFar-begun (table_of c.args.texts.now) c.args.scale c.args.at c.args.nodes.now.items c.args.sums.now.ids.items c.args.sums.now.lats.items c.args.sums.now.lons.items c.args.keys_values.now c.requires.groups)
+    (DenseSoFar-begun (table_of c.args.texts.now) c.args.scale c.args.at c.args.nodes.now c.args.sums.now.ids.items c.args.sums.now.lats.items c.args.sums.now.lons.items c.args.keys_values.now c.requires.groups)
 
-pub returns-in_err-tags-clause-nodes : goal.returns-in_err-tags-clause-nodes
-returns-in_err-tags-clause-nodes c =
-    let read = rw c.loop-i.invariant.kept at c.in_err-tags.ensures.tags in
-    Becomes-exit _ _ _ _ _ c.from_residual-in_err-tags.ensures.1 read
+pub returns-in_err-rest-clause-nodes : goal.returns-in_err-rest-clause-nodes
+returns-in_err-rest-clause-nodes c =
+    let read = rw c.loop-i.invariant.kept at c.in_err-rest.ensures.tags in
+    Becomes-exit _ _ _ _ _ c.from_residual.ensures.1 read
     (λ d e. turn-fault (table_of c.args.texts.now) _ c.args.scale c.args.at _ _ _ c.args.sums.now.ids.items c.args.sums.now.lats.items c.args.sums.now.lons.items c.loop-i.i _ d c.loop-i.invariant (omega arith) e)
 
 pub loop-i-preserved : goal.loop-i-preserved
 loop-i-preserved c =
-    let read = rw c.loop-i.invariant.kept at c.in_ok-tags.ensures.tags in
+    let read = rw c.loop-i.invariant.kept at c.in_ok-rest.ensures.tags in
     let kept = c.read_group.ensures.table ∙ c.loop-i.invariant.kept in
     let lat_fits : FitsSigned w64 c.index.result.now = search rules in
     let lon_fits : FitsSigned w64 c.index-in-loop-i.result.now = search rules in
@@ -36,31 +36,31 @@ loop-i-preserved c =
     let lat_is = to_z-of_z w64 _ lat_fits ∙ get_or_read c.args.sums.now.lats.items c.loop-i.i _ (omega arith) c.index.ensures (pos 0) in
     let lon_is = to_z-of_z w64 _ lon_fits ∙ get_or_read c.args.sums.now.lons.items c.loop-i.i _ (omega arith) c.index-in-loop-i.ensures (pos 0) in
     elim c.match-place.branch [
-      | in-Some+in_ok-push-in-Some w ↦
+      | in-Some+in_ok-push_parts-in-Some w ↦
           (let id_fits : FitsSigned w64 w.index-in-Some.result.now = search rules in
           let lat32 : FitsSigned w32 w.in-Some.lat = search rules in
           let lon32 : FitsSigned w32 w.in-Some.lon = search rules in
           let id_is = to_z-of_z w64 _ id_fits ∙ get_or_read c.args.sums.now.ids.items c.loop-i.i _ (omega arith) w.index-in-Some.ensures (pos 0) in
-          let node : OsmNode = record { id = to_z w64 (of_z w64 w.index-in-Some.result.now); lat = to_z w32 (of_z w32 w.in-Some.lat); lon = to_z w32 (of_z w32 w.in-Some.lon); tags = c.in_ok-tags.tags } in
-          turn-placed (table_of c.args.texts.now) _ _ c.args.scale c.args.at _ c.loop-i.misplaced _ c.loop-i.nodes.items _ c.args.sums.now.ids.items c.args.sums.now.lats.items c.args.sums.now.lons.items c.loop-i.i c.loop-i.rest.now c.in_ok-tags.behind.now c.in_ok-tags.tags
+          let node : OsmNode = record { id = to_z w64 (of_z w64 w.index-in-Some.result.now); lat = to_z w32 (of_z w32 w.in-Some.lat); lon = to_z w32 (of_z w32 w.in-Some.lon); tags = c.read_group.new.tags.items } in
+          turn-placed (table_of c.args.texts.now) _ _ c.args.scale c.args.at _ c.loop-i.misplaced _ c.loop-i.nodes _ c.args.sums.now.ids.items c.args.sums.now.lats.items c.args.sums.now.lons.items c.loop-i.i c.loop-i.rest.now c.in_ok-rest.rest.now c.read_group.new.tags.items
           (to_z w64 (of_z w64 w.index-in-Some.result.now)) (to_z w64 (of_z w64 c.index.result.now)) (to_z w64 (of_z w64 c.index-in-loop-i.result.now)) node
           c.loop-i.invariant kept
           (record { within_ids = h; within_lats = omega arith; within_lons = omega arith; id_is = id_is; lat_is = lat_is; lon_is = lon_is })
           read
           (w.in-Some.ensures.placed _ _ ∙ ap (λ n. Ok n) (same_node _ _ _ _ _ _ (sym (to_z-of_z w32 _ lat32)) (sym (to_z-of_z w32 _ lon32))))
           w.misplaced-is
-          (ap (λ (v : Vec OsmNode Global). v.items) w.nodes-is ∙ w.in_ok-push-in-Some.ensures.items))
+          (w.nodes-is ∙ w.in_ok-push_parts-in-Some.ensures.ok ∙ ap (λ (t : List Tag). c.loop-i.nodes ++ node_of node.id node.lat node.lon t ∷ []) w.as_slice.ensures.value))
       | in-None w ↦
           (let id_fits : FitsSigned w64 w.index-in-None.result.now = search rules in
           let id_is = to_z-of_z w64 _ id_fits ∙ get_or_read c.args.sums.now.ids.items c.loop-i.i _ (omega arith) w.index-in-None.ensures (pos 0) in
-          turn-misplaced (table_of c.args.texts.now) _ _ c.args.scale c.args.at _ c.loop-i.misplaced _ c.loop-i.nodes.items _ c.args.sums.now.ids.items c.args.sums.now.lats.items c.args.sums.now.lons.items c.loop-i.i c.loop-i.rest.now c.in_ok-tags.behind.now c.in_ok-tags.tags
+          turn-misplaced (table_of c.args.texts.now) _ _ c.args.scale c.args.at _ c.loop-i.misplaced _ c.loop-i.nodes _ c.args.sums.now.ids.items c.args.sums.now.lats.items c.args.sums.now.lons.items c.loop-i.i c.loop-i.rest.now c.in_ok-rest.rest.now c.read_group.new.tags.items
           (to_z w64 (of_z w64 w.index-in-None.result.now)) (to_z w64 (of_z w64 c.index.result.now)) (to_z w64 (of_z w64 c.index-in-loop-i.result.now))
           c.loop-i.invariant kept
           (record { within_ids = h; within_lats = omega arith; within_lons = omega arith; id_is = id_is; lat_is = lat_is; lon_is = lon_is })
           read
           (w.in-None.ensures.misplaced _ _)
           (w.misplaced-is ∙ w.or-misplaced.ensures)
-          (ap (λ (v : Vec OsmNode Global). v.items) w.nodes-is))
+          w.nodes-is)
     ]
 
 pub returns-in-Some-misplaced-clause-nodes : goal.returns-in-Some-misplaced-clause-nodes

@@ -6,5 +6,5 @@ use Rattle.osm_objects.proofs.dense.add_nodes.Given as goal
 
 abbrev pub invariant-loop-i : goal.invariant-loop-i
 invariant-loop-i l = DenseSoFar (table_of l.fn.texts) (table_of l.texts) l.scale l.at
-    (after l.fn.nodes.items (nodes_read (table_of l.fn.texts) l.scale l.at l.sums.ids.items l.sums.lats.items l.sums.lons.items l.keys_values))
-    l.misplaced l.nodes.items l.sums.ids.items l.sums.lats.items l.sums.lons.items l.i l.rest
+    (after l.fn.nodes (nodes_read (table_of l.fn.texts) l.scale l.at l.sums.ids.items l.sums.lats.items l.sums.lons.items l.keys_values))
+    l.misplaced l.nodes l.sums.ids.items l.sums.lats.items l.sums.lons.items l.i l.rest

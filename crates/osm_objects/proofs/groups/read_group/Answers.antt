@@ -1,4 +1,4 @@
-use Rattle.std.proofs.Common.{◌≡◌, ◌∙◌, ap, sym, refl, Ok, [], ◌∷◌}
+use Rattle.std.proofs.Common.{◌≡◌, ◌∙◌, ap, sym, refl, [], ◌∷◌}
 use Rattle.std.proofs.lemmas.List.{nil_from_length}
 use Rattle.osm_objects.specs.Tags.{tags_of}
 use Rattle.osm_objects.specs.FirstGroups.{first_group}
@@ -10,7 +10,7 @@ use Rattle.osm_objects.proofs.groups.read_group.Goals as goal
 
 pub loop-key-init : goal.loop-key-init
 loop-key-init c = record {
-  tags = rw c.new-tags.ensures.items (sym (after_nil (tags_of (table_of c.args.texts.now) c.args.at (first_group c.args.numbers.now))));
+  tags = rw c.clear.ensures.items (sym (after_nil (tags_of (table_of c.args.texts.now) c.args.at (first_group c.args.numbers.now))));
   behind = refl;
   kept = refl;
 }
@@ -18,13 +18,13 @@ loop-key-init c = record {
 pub returns-then-key-eq0-clause-tags : goal.returns-then-key-eq0-clause-tags
 returns-then-key-eq0-clause-tags c =
     let ended = ended-closed (table_of c.args.texts.now) c.args.at c.loop-key.tags.items c.loop-key.rest.now c.in-Some.behind.now c.in-Some.key.now c.in-Some.ensures.cases.0 c.if-key-eq0.true in
-    group_read-is _ _ _ _ _ (c.loop-key.invariant.tags ∙ ended.0 ∙ ap (λ l. Ok l) (sym c.from_vec.ensures)) (c.loop-key.invariant.behind ∙ ended.1)
+    group_read-is _ _ _ _ _ (c.loop-key.invariant.tags ∙ ended.0) (c.loop-key.invariant.behind ∙ ended.1)
 
 pub returns-in_default-split_first-clause-tags : goal.returns-in_default-split_first-clause-tags
 returns-in_default-split_first-clause-tags c =
     let none : c.in-Some.behind.now ≡ [] = nil_from_length _ c.in_default-split_first.ensures.cases in
     let ended = ended-cut (table_of c.args.texts.now) c.args.at c.loop-key.tags.items c.loop-key.rest.now c.in-Some.behind.now c.in-Some.key.now c.in-Some.ensures.cases.0 none c.if-key-eq0.false in
-    group_read-is _ _ _ _ _ (c.loop-key.invariant.tags ∙ ended.0 ∙ ap (λ l. Ok l) (sym c.from_vec-in_default-split_first.ensures)) (c.loop-key.invariant.behind ∙ ended.1)
+    group_read-is _ _ _ _ _ (c.loop-key.invariant.tags ∙ ended.0) (c.loop-key.invariant.behind ∙ ended.1)
 
 pub returns-in_err-add_tag-clause-tags : goal.returns-in_err-add_tag-clause-tags
 returns-in_err-add_tag-clause-tags c =
@@ -48,4 +48,4 @@ loop-key-preserved c =
 pub returns-clause-tags : goal.returns-clause-tags
 returns-clause-tags c =
     let ended = ended-all (table_of c.args.texts.now) c.args.at c.loop-key.tags.items c.loop-key.rest.now (nil_from_length _ c.in_default.ensures.cases) in
-    group_read-is _ _ _ _ _ (c.loop-key.invariant.tags ∙ ended.0 ∙ ap (λ l. Ok l) (sym c.from_vec-2.ensures)) (c.loop-key.invariant.behind ∙ ended.1)
+    group_read-is _ _ _ _ _ (c.loop-key.invariant.tags ∙ ended.0) (c.loop-key.invariant.behind ∙ ended.1)

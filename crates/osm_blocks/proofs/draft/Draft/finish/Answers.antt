@@ -12,32 +12,32 @@ headed : (b : Bool) → not b ≡ false → b ≡ true
 headed true e = refl
 headed false e = absurd cc
 
-pub returns-in-Some-first_past : goal.returns-in-Some-first_past
-returns-in-Some-first_past c =
+pub returns-in-Some-clause-end : goal.returns-in-Some-clause-end
+returns-in-Some-clause-end c =
     let old = seen_objects c.args.self.lists in
     let new = seen_objects c.order_all.new.lists in
-    let order : AreInOrder old new = c.in_default.ensures in
+    let order : AreInOrder old new = rw c.in-Ok-None.field-0-is at c.in-Ok-None.ensures in
     inr (inr (record {
       headed = headed c.args.self.headed c.if-not-self.false;
       distinct = in_order_distinct old new order;
-      what = c.in-Some-first_past.what;
-      count = c.in-Some-first_past.count;
-      past = ap first_past (sym (counts_same old new order)) ∙ ap first_past (sym c.count-counts.ensures) ∙ sym c.first_past.ensures ∙ c.in-Some-first_past.is;
+      what = c.in-Some.what;
+      count = c.in-Some.count;
+      past = ap first_past (sym (counts_same old new order)) ∙ ap first_past (sym c.count-counts.ensures) ∙ sym c.first_past.ensures ∙ c.in-Some.is;
       is = refl;
     }))
 
 pub extract_of-requires-clause-placed : goal.extract_of-requires-clause-placed
 extract_of-requires-clause-placed c =
-    let order : AreInOrder (seen_objects c.args.self.lists) (seen_objects c.order_all.new.lists) = c.in_default.ensures in
-    All-permutation IsPlaced c.args.self.lists.nodes.items c.order_all.new.lists.nodes.items order.nodes.same c.requires
+    let order : AreInOrder (seen_objects c.args.self.lists) (seen_objects c.order_all.new.lists) = rw c.in-Ok-None.field-0-is at c.in-Ok-None.ensures in
+    All-permutation IsPlaced c.args.self.lists.nodes c.order_all.new.lists.nodes order.nodes.same c.requires
 
-pub returns : goal.returns
-returns c =
+pub returns-clause-end : goal.returns-clause-end
+returns-clause-end c =
     let old = seen_objects c.args.self.lists in
     let new = seen_objects c.order_all.new.lists in
-    let order : AreInOrder old new = c.in_default.ensures in
+    let order : AreInOrder old new = rw c.in-Ok-None.field-0-is at c.in-Ok-None.ensures in
     let within : first_past (counts_of old) ≡ None =
-    ap first_past (sym (counts_same old new order)) ∙ ap first_past (sym c.count-counts.ensures) ∙ sym c.first_past.ensures ∙ c.in_default-first_past.is in
+    ap first_past (sym (counts_same old new order)) ∙ ap first_past (sym c.count-counts.ensures) ∙ sym c.first_past.ensures ∙ c.in_default.is in
     let finished : IsFinished (seen c.args.self) new =
     record { headed = headed c.args.self.headed c.if-not-self.false; nodes = order.nodes; ways = order.ways; relations = order.relations; within = within } in
     subst (IsFinished (seen c.args.self)) (sym c.extract_of.ensures) finished

@@ -1,0 +1,8 @@
+-- No id so far is the next one too.
+use Rattle.std.proofs.Common.{◌≡◌, ◌-◌, drop}
+use Rattle.osm_blocks.specs.Extracts.{relation_id}
+use Rattle.osm_blocks.specs.Steps.{next_twice}
+use Rattle.osm_blocks.proofs.order.relation_twice.Given as goal
+
+abbrev pub invariant-loop-i : goal.invariant-loop-i
+invariant-loop-i l = next_twice relation_id l.relations ≡ next_twice relation_id (drop (l.i - 1) l.relations)
