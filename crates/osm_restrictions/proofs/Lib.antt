@@ -3,3 +3,4 @@ mod KindLemmas
 mod Listed
 mod Told
 mod Rises
+mod WorkedRows

@@ -30,11 +30,7 @@ pub fn turn_rows(alloc: Global, extract: &Extract) -> Result<Turns, AllocError>
 }
 
 /// Puts what a relation says behind the others.
-fn add_turn(
-    alloc: Global,
-    turns: &mut Turns,
-    relation: &RelationView<'_>,
-) -> Result<(), AllocError>
+fn add_turn(alloc: Global, turns: &mut Turns, relation: &RelationView<'_>) -> Result<(), AllocError>
     ensures rows { OnOk result (turns.new.rows ≡ turns.old.rows ++ option_to_list (row_of relation.now)) }
     ensures skipped { OnOk result (turns.new.skipped ≡ turns.old.skipped ++ option_to_list (skipped_of relation.now)) }
 {

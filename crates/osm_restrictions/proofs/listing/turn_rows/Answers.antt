@@ -15,15 +15,15 @@ loop-i-preserved c =
     let inside : c.loop-i.i < length c.args.extract.now.relations = omega arith in
     record {
       rows =
-        c.in_ok-add_turn.ensures.rows
-        ∙ ap (λ (l : List TurnRow). l ++ option_to_list (row_of c.at.result)) c.loop-i.invariant.rows
-        ∙ ap (λ (r : OsmRelation). filter_map row_of (take c.loop-i.i c.args.extract.now.relations) ++ option_to_list (row_of r)) c.at.ensures
-        ∙ sym (filter_map_more row_of c.args.extract.now.relations c.loop-i.i c.at.result inside);
+          c.in_ok-add_turn.ensures.rows
+          ∙ ap (λ (l : List TurnRow). l ++ option_to_list (row_of c.at.result)) c.loop-i.invariant.rows
+          ∙ ap (λ (r : OsmRelation). filter_map row_of (take c.loop-i.i c.args.extract.now.relations) ++ option_to_list (row_of r)) c.at.ensures
+          ∙ sym (filter_map_more row_of c.args.extract.now.relations c.loop-i.i c.at.result inside);
       skipped =
-        c.in_ok-add_turn.ensures.skipped
-        ∙ ap (λ (l : List Skipped). l ++ option_to_list (skipped_of c.at.result)) c.loop-i.invariant.skipped
-        ∙ ap (λ (r : OsmRelation). filter_map skipped_of (take c.loop-i.i c.args.extract.now.relations) ++ option_to_list (skipped_of r)) c.at.ensures
-        ∙ sym (filter_map_more skipped_of c.args.extract.now.relations c.loop-i.i c.at.result inside);
+          c.in_ok-add_turn.ensures.skipped
+          ∙ ap (λ (l : List Skipped). l ++ option_to_list (skipped_of c.at.result)) c.loop-i.invariant.skipped
+          ∙ ap (λ (r : OsmRelation). filter_map skipped_of (take c.loop-i.i c.args.extract.now.relations) ++ option_to_list (skipped_of r)) c.at.ensures
+          ∙ sym (filter_map_more skipped_of c.args.extract.now.relations c.loop-i.i c.at.result inside);
     }
 
 pub returns-clause-told : goal.returns-clause-told

@@ -7,5 +7,5 @@ use Rattle.osm_restrictions.proofs.listing.turn_rows.Given as goal
 abbrev pub invariant-loop-i : goal.invariant-loop-i
 invariant-loop-i l = record {
   rows : l.turns.rows ≡ filter_map row_of (take l.i l.extract.relations);
-  skipped : l.turns.skipped ≡ filter_map skipped_of (take l.i l.extract.relations)
+  skipped : l.turns.skipped ≡ filter_map skipped_of (take l.i l.extract.relations);
 }
