@@ -13,16 +13,30 @@ use road_pieces::{Junction, PieceKey, PieceView, Pieces, Roads};
 use std::alloc::{AllocError, Global};
 use tile_geometry::tile_of;
 
+/// Room for the line of a junction, in bytes.
+const JUNCTION_ROOM: usize = 32;
+
+/// Room for the line of a piece, in bytes.
+const PIECE_ROOM: usize = 64;
+
 /// The list of these roads: a line for each junction, then a line for each piece. Its bytes tell the pieces.
 pub(crate) fn plain_text(alloc: Global, roads: &Roads) -> Result<String, AllocError>
     requires { All (λ junction. IsPlace junction.at) roads.now.junctions }
     ensures list { IfOk result (λ text. string_bytes text ≡ list_of roads.now.junctions roads.now.pieces) }
     ensures told { IfOk result (λ text. pieces_told (string_bytes text) ≡ map listed roads.now.pieces) }
 {
-    let mut text = String::from_str(alloc, "mjolnir-plain 1\n")?;
+    let mut text = String::with_capacity(alloc, room_of(roads))?;
+    text.push_str("mjolnir-plain 1\n")?;
     push_junctions(&mut text, roads.junctions.as_slice())?;
     push_pieces(&mut text, &roads.pieces)?;
     Ok(text)
+}
+
+/// Nearly always enough bytes for the lines of these roads, so that the text needn't grow.
+fn room_of(roads: &Roads) -> usize {
+    let junctions = roads.junctions.len().saturating_mul(JUNCTION_ROOM);
+    let pieces = roads.pieces.len().saturating_mul(PIECE_ROOM);
+    junctions.saturating_add(pieces)
 }
 
 /// Adds the lines of these junctions.
