@@ -1,5 +1,5 @@
 -- Nodes in another order.
-use Rattle.std.proofs.Common.{◌≡◌, ◌⊎◌, inl, inr, ℕ, suc, ◌+◌, ◌<◌, ◌≤◌, ◌^◌, refl, sym, ◌∙◌, ap, subst, get_or, List, [], ◌∷◌, ◌++◌, length, map, take, arith, pos}
+use Rattle.std.proofs.Common.{◌≡◌, inl, inr, ℕ, suc, ◌+◌, ◌<◌, ◌≤◌, ◌^◌, refl, sym, ◌∙◌, ap, subst, get_or, List, [], ◌∷◌, ◌++◌, length, map, take, arith, pos}
 use Rattle.std.specs.Prelude.{All, slice_range, IsPermutation}
 use Rattle.std.specs.List.Sorted.{IsSortedByKey}
 use Rattle.std.specs.Ordering.{int_cmp, is_lt}
@@ -11,7 +11,7 @@ use Rattle.osm_model.specs.declared.nodes.OsmNode.{OsmNode}
 use Rattle.osm_model.specs.declared.nodes.Spot.{Spot}
 use Rattle.osm_model.specs.declared.node_spans.TagSpan.{TagSpan}
 use Rattle.osm_model.specs.declared.node_order.PlacedSpot.{PlacedSpot}
-use Rattle.osm_model.specs.NodeRows.{tags_at, node_of, nodes_from, StandsAt, HasNone, IsSpan, AreNodes, AreSpans}
+use Rattle.osm_model.specs.NodeRows.{tags_at, node_of, nodes_from, HasNone, IsSpan, AreNodes, AreSpans}
 use Rattle.osm_model.specs.NodeOrder.{placed_from, placed_node, AddsSpan, IsInOrder}
 use Rattle.osm_model.proofs.TextLemmas.{grew_none, grew_by}
 use Rattle.osm_model.proofs.NodeLemmas.{none_at, some_at, bare_behind, spans_kept, nodes_push, nodes_other, tags_last, none_yet, rise_more, wider}

@@ -1,6 +1,6 @@
 -- The tags of all nodes are those of all spans.
-use Rattle.std.proofs.Common.{◌≡◌, ◌⊎◌, inl, inr, ℕ, suc, ◌+◌, ◌-◌, ◌<◌, ◌≤◌, ◌^◌, min, refl, sym, ◌∙◌, ap, get_or, List, [], ◌∷◌, length, take, drop, arith, ◌==◌}
-use Rattle.std.specs.Prelude.{All, AllPairs, slice_range, if◌then◌else◌, sum_by}
+use Rattle.std.proofs.Common.{◌≡◌, ◌⊎◌, inl, inr, ℕ, suc, ◌+◌, ◌-◌, ◌<◌, ◌≤◌, ◌^◌, min, refl, sym, ◌∙◌, ap, get_or, List, [], ◌∷◌, length, drop, arith}
+use Rattle.std.specs.Prelude.{All, slice_range}
 use Rattle.std.proofs.lemmas.Bool.{cond-true, cond-false, eq-eqb, ne_eqb, cases_lt}
 use Rattle.std.proofs.lemmas.List.{length-take, length-drop}
 use Rattle.std.proofs.lemmas.List.Elements.{All-head, All-tail}
