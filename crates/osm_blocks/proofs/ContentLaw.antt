@@ -22,7 +22,7 @@ use Rattle.osm_messages.specs.Means.{IsHeader, IsBlock}
 use Rattle.osm_messages.proofs.Meant.{Each, InBytes, HoldsBytes as AreFieldBytes, holds_bytes, front_bytes}
 use Rattle.osm_objects.specs.declared.fault.ObjectFault.{ObjectFault}
 use Rattle.osm_objects.specs.Objects.{Objects, no_objects, joined, objects_of}
-use Rattle.osm_objects.specs.Means.{Some_of, IsObjects}
+use Rattle.osm_objects.specs.Means.{HoldsOfOne, IsObjects}
 use Rattle.osm_blocks.specs.declared.fault.ExtractFault.{ExtractFault}
 use Rattle.osm_blocks.specs.declared.fault.ExtractFault.TheVariants as faults
 use Rattle.osm_blocks.specs.Faults.{spelled_as, meant_as}
@@ -32,7 +32,8 @@ use Rattle.osm_blocks.specs.Counts.{counts_of, first_past}
 use Rattle.osm_blocks.specs.Steps.{AreInOrder}
 use Rattle.osm_blocks.specs.Extracts.{◌>>=◌, given, Draft, empty_draft, all_known, header_in, objects_in, with_header, with_data, with_blob, with_blobs, IsFinished, Reads, node_id, way_id, relation_id}
 use Rattle.osm_blocks.specs.FileContent.{IsHeaderBlob, IsDataBlob, IsReadFeature, HasHeaderBlock, HasDataBlock, GivesBlob, AllGive, HeadersFirst, IsFileOf}
-use Rattle.osm_blocks.proofs.Limits.{are_within, none_past, counts_same}
+use Rattle.osm_blocks.proofs.Limits.{are_within, counts_same}
+use Rattle.osm_blocks.proofs.WithinLimits.{none_past}
 
 -- ---- results
 
@@ -307,16 +308,16 @@ module _ (laws : Laws) where
 
   -- ---- all blobs
 
-  some_left : (before : List Blob) (blob : Blob) → Some_of IsHeaderBlob before → Some_of IsHeaderBlob (before ++ blob ∷ [])
+  some_left : (before : List Blob) (blob : Blob) → HoldsOfOne IsHeaderBlob before → HoldsOfOne IsHeaderBlob (before ++ blob ∷ [])
   some_left [] blob some = absurd some
   some_left (x ∷ before) blob (inl p) = inl p
   some_left (x ∷ before) blob (inr p) = inr (some_left before blob p)
 
-  some_last : (before : List Blob) (blob : Blob) → IsHeaderBlob blob → Some_of IsHeaderBlob (before ++ blob ∷ [])
+  some_last : (before : List Blob) (blob : Blob) → IsHeaderBlob blob → HoldsOfOne IsHeaderBlob (before ++ blob ∷ [])
   some_last [] blob is = inl is
   some_last (x ∷ before) blob is = inr (some_last before blob is)
 
-  some_which : (before : List Blob) (blob : Blob) → Some_of IsHeaderBlob (before ++ blob ∷ []) → Some_of IsHeaderBlob before ⊎ IsHeaderBlob blob
+  some_which : (before : List Blob) (blob : Blob) → HoldsOfOne IsHeaderBlob (before ++ blob ∷ []) → HoldsOfOne IsHeaderBlob before ⊎ IsHeaderBlob blob
   some_which [] blob (inl p) = inr p
   some_which [] blob (inr p) = absurd p
   some_which (x ∷ before) blob (inl p) = inl (inl p)
@@ -324,7 +325,7 @@ module _ (laws : Laws) where
 
   -- a header came exactly where one is among the blobs before
   abbrev Headed : List Blob → Draft → Type 0
-  Headed before draft = (draft.headed ≡ true) ↔ Some_of IsHeaderBlob before
+  Headed before draft = (draft.headed ≡ true) ↔ HoldsOfOne IsHeaderBlob before
 
   next_headed : (before : List Blob) (old new : Draft) (blob : Blob) → Headed before old → (new.headed ≡ true) ↔ ((old.headed ≡ true) ⊎ IsHeaderBlob blob) → Headed (before ++ blob ∷ []) new
   next_headed before old new blob headed is = (

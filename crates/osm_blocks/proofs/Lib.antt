@@ -8,4 +8,5 @@ pub mod Prefix
 pub mod Readings
 pub mod Whole
 pub mod OfBytes
+pub mod WithinLimits
 pub mod ContentLaw

@@ -8,7 +8,7 @@ use Rattle.pbf_blobs.specs.Triple.{AreTriples}
 use Rattle.osm_messages.specs.Blocks.{Block}
 use Rattle.osm_messages.specs.Means.{IsHeader, IsBlock}
 use Rattle.osm_objects.specs.Objects.{Objects, no_objects, joined}
-use Rattle.osm_objects.specs.Means.{Some_of, IsObjects}
+use Rattle.osm_objects.specs.Means.{HoldsOfOne, IsObjects}
 use Rattle.osm_blocks.specs.Order.{InOrder}
 use Rattle.osm_blocks.specs.Extracts.{node_id, way_id, relation_id}
 
@@ -53,7 +53,7 @@ AllGive (blob ∷ blobs) whole = (given others : Objects) × GivesBlob blob give
 -- each data blob comes behind a header, these blobs before them counted
 abbrev pub HeadersFirst : List Blob → List Blob → Type 0
 HeadersFirst before [] = Unit {0}
-HeadersFirst before (blob ∷ blobs) = (IsDataBlob blob → Some_of IsHeaderBlob before) × HeadersFirst (before ++ blob ∷ []) blobs
+HeadersFirst before (blob ∷ blobs) = (IsDataBlob blob → HoldsOfOne IsHeaderBlob before) × HeadersFirst (before ++ blob ∷ []) blobs
 
 -- ---- the file
 
@@ -62,7 +62,7 @@ HeadersFirst before (blob ∷ blobs) = (IsDataBlob blob → Some_of IsHeaderBlob
 pub record IsFileOf (bytes : List ℕ) (lists : Objects) : Type 0 where
   pub blobs : List Blob
   pub triples : AreTriples 0 bytes blobs
-  pub headed : Some_of IsHeaderBlob blobs
+  pub headed : HoldsOfOne IsHeaderBlob blobs
   pub headers_first : HeadersFirst [] blobs
   pub all : Objects
   pub gives : AllGive blobs all

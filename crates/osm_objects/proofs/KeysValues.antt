@@ -119,7 +119,7 @@ Spells-first numbers g gs spells = elim spells.either [
       (ap first_group none.0 ∙ head, record { either = inr (ap behind_group none.0, tail) }))
 ]
 
-pub exactly_is : (at count : ℕ) (o : Option Groups) (groups : Groups) → exactly at count o ≡ Ok groups → (o ≡ Some groups) × (length groups ≡ count)
+exactly_is : (at count : ℕ) (o : Option Groups) (groups : Groups) → exactly at count o ≡ Ok groups → (o ≡ Some groups) × (length groups ≡ count)
 exactly_is at count None groups e = absurd cc
 exactly_is at count (Some gs) groups e =
     elim (cases_Bool (eqb (length gs) count)) [

@@ -20,7 +20,7 @@ use Rattle.osm_objects.specs.declared.fault.ObjectFault.TheVariants as faults
 use Rattle.osm_objects.specs.declared.scale.Scale.{Scale}
 use Rattle.osm_objects.specs.Steps.{◌>>=◌}
 use Rattle.osm_objects.specs.Objects.{Objects, no_objects, joined, behind, spelled, lists_in, meaning_of, with_object, with_objects, table_of, objects_of}
-use Rattle.osm_objects.specs.Means.{Held, held_by, GivesObjects, AreJoined, units_in, IsObjects}
+use Rattle.osm_objects.specs.Means.{HeldNumbers, held_by, GivesObjects, AreJoined, units_in, IsObjects}
 use Rattle.osm_objects.specs.Causes.{IsFirstCause, HasFirstFault, HasNoFault, IsFirstAmong, IsFirstOfBlock}
 use Rattle.osm_objects.proofs.LawParts.{ok_one, err_one, ok_not_err, both_parts, which_part, either_way, then_is, numbered_is}
 use Rattle.osm_objects.proofs.LawKinds.{lists_by, kind_means, kind_meant, first_fault, no_fault, fault_so}

@@ -7,12 +7,12 @@ use Rattle.osm_messages.specs.declared.kind.ObjectKind.TheVariants as kinds
 use Rattle.osm_objects.specs.declared.fault.ObjectFault.{ObjectFault}
 use Rattle.osm_objects.specs.declared.fault.ObjectFault.TheVariants as faults
 use Rattle.osm_objects.specs.declared.scale.Scale.{Scale}
-use Rattle.osm_objects.specs.Means.{Held}
-use Rattle.osm_objects.specs.Causes.{ObjectCause, Lacks, IsOdd, IsPast, NoText, NoPlace, rank_of, IsUpTo, fault_of, IsNeeded, IsUneven, IsBadNumber, Name, index_of, IsBadName, AreNames, HasBadName, IsMisplaced, IsCauseIn}
+use Rattle.osm_objects.specs.Means.{HeldNumbers}
+use Rattle.osm_objects.specs.Causes.{ObjectCause, Lacks, IsOdd, IsPast, NoText, NoPlace, rank_of, IsUpTo, fault_of, IsNeeded, IsUneven, IsBadNumber, NamedText, index_of, IsBadName, AreNames, HasBadName, IsMisplaced, IsCauseIn}
 use Rattle.osm_objects.proofs.LawNames.{NoneBad, FirstBad}
 use Rattle.osm_objects.proofs.LawRanks.{FirstFrom, at_part, not_before, none_at}
 
-module _ (table : List (List ℕ)) (scale : Scale) (kind : ObjectKind) (held : Held) (at : ℕ) where
+module _ (table : List (List ℕ)) (scale : Scale) (kind : ObjectKind) (held : HeldNumbers) (at : ℕ) where
   abbrev pub In : ObjectCause → Type 0
   In cause = IsCauseIn table scale kind held cause
 
@@ -64,7 +64,7 @@ module _ (table : List (List ℕ)) (scale : Scale) (kind : ObjectKind) (held : H
 
   -- ---- names
 
-  pub name_first : (f : ObjectFault) (names : List Name) → AreNames kind held names → ((others : List Name) → AreNames kind held others → others ≡ names) → FirstBad table at names f → FirstFrom In at (3, 0) f
+  pub name_first : (f : ObjectFault) (names : List NamedText) → AreNames kind held names → ((others : List NamedText) → AreNames kind held others → others ≡ names) → FirstBad table at names f → FirstFrom In at (3, 0) f
   name_first f names are one bad = record {
     cause = NoText (length bad.before) (index_of bad.name);
     stands = record {
@@ -90,7 +90,7 @@ module _ (table : List (List ℕ)) (scale : Scale) (kind : ObjectKind) (held : H
           inr (refl, not_before (IsBadName table) bad.before bad.after bad.name stands.name place bad.good (ap (λ l. slice_get l place) (sym (one stands.names stands.are_names ∙ bad.parts)) ∙ stands.stands) stands.bad)
       first (NoPlace place id) stands from = inl (omega arith)
 
-  pub over_names : (names : List Name) → ((others : List Name) → AreNames kind held others → others ≡ names) → NoneBad table names → (cause : ObjectCause) → In cause → IsUpTo (3, 0) (rank_of cause) → IsUpTo (4, 0) (rank_of cause)
+  pub over_names : (names : List NamedText) → ((others : List NamedText) → AreNames kind held others → others ≡ names) → NoneBad table names → (cause : ObjectCause) → In cause → IsUpTo (3, 0) (rank_of cause) → IsUpTo (4, 0) (rank_of cause)
   over_names names one none (Lacks n) stands (inl h) = absurd (omega arith)
   over_names names one none (Lacks n) stands (inr h) = absurd (omega (arith, h.0))
   over_names names one none IsOdd stands (inl h) = absurd (omega arith)

@@ -27,8 +27,8 @@ use Rattle.osm_objects.specs.Nodes.{node_of, nodes_at, grouped_nodes, dense_of}
 use Rattle.osm_objects.specs.Ways.{way_of}
 use Rattle.osm_objects.specs.Relations.{kind_of, members_of, relation_of}
 use Rattle.osm_objects.specs.Objects.{Objects, just_nodes, just_ways, just_relations, meaning_of}
-use Rattle.osm_objects.specs.Means.{Held, IsLastOf, Some_of, sum_at, AreSums, IsUtf8Text, ArePairs, AreGroups, AreTags, IsNodeAt, MeansNode, Row, MeansRow, MeansDense, MeansWay, type_of, MeansRelation, MeansObject}
-use Rattle.osm_objects.specs.Causes.{ObjectCause, Lacks, IsOdd, IsPast, NoText, NoPlace, rank_of, fault_of, index_of, HasBadName, IsFirstCause, IsNeeded, IsUneven, IsBadNumber, HasBadSum, Name, Role, tag_names, role_names, pairs_in, AreNames, IsOffEarth, IsMisplaced, IsOneOff, IsRowOff, IsCauseIn}
+use Rattle.osm_objects.specs.Means.{HeldNumbers, IsLastOf, HoldsOfOne, sum_at, AreSums, IsUtf8Text, ArePairs, AreGroups, AreTags, IsNodeAt, MeansNode, DenseRow, MeansRow, MeansDense, MeansWay, type_of, MeansRelation, MeansObject}
+use Rattle.osm_objects.specs.Causes.{ObjectCause, Lacks, IsOdd, IsPast, NoText, NoPlace, rank_of, fault_of, index_of, HasBadName, IsFirstCause, IsNeeded, IsUneven, IsBadNumber, HasBadSum, NamedText, RoleText, tag_names, role_names, pairs_in, AreNames, IsOffEarth, IsMisplaced, IsOneOff, IsRowOff, IsCauseIn}
 use Rattle.osm_objects.proofs.LawParts.{either_way, ok_one, err_one, ok_not_err, both_parts, which_part, then_is, one_ok, one_is, one_bad, some_last, many_ok, many_is, many_bad, pairs_even, pairs_ok, pairs_is, pairs_bad, sums_ok, sums_is, sums_bad, no_bad_sum, same_items, Groups, groups_ok, groups_is, groups_bad}
 use Rattle.osm_objects.proofs.LawNames.{NoneBad, FirstBad, ReadsNames, reads_then, reads_none, reads_end, text_ok, text_is, tags_ok, tags_is, tags_read, groups_read, role_read}
 use Rattle.osm_objects.proofs.LawPlaces.{node_way, node_ok, node_fault, node_so, not_off, ids_of, lats_of, lons_of, groups_of_rows, IsOff, FirstOff, rows_ok, rows_bad, rows_is}
@@ -36,7 +36,7 @@ use Rattle.osm_objects.proofs.LawRanks.{DecidesFrom, same_rank, from_zero, step_
 use Rattle.osm_objects.proofs.LawFirst.{lacks_first, over_lacks, odd_first, over_odd, past_first, over_past, name_first, over_names, place_first, no_place}
 
 -- the lists of the numbers of each field
-abbrev pub lists_by : Held → Lists
+abbrev pub lists_by : HeldNumbers → Lists
 lists_by held = record { first = held 1; second = held 2; third = held 3; eighth = held 8; ninth = held 9; tenth = held 10 }
 
 -- ---- what there is one of
@@ -52,7 +52,7 @@ one_last xs a b p q = ok_one a b (sym (one_is 0 0 xs a p) ∙ one_is 0 0 xs b q)
 
 -- ---- nodes
 
-node_means : (table : List (List ℕ)) (scale : Scale) (at : ℕ) (held : Held) (node : OsmNode) → node_of table scale at (lists_by held) ≡ Ok node → MeansNode table scale held node
+node_means : (table : List (List ℕ)) (scale : Scale) (at : ℕ) (held : HeldNumbers) (node : OsmNode) → node_of table scale at (lists_by held) ≡ Ok node → MeansNode table scale held node
 unfolding node_of
 node_means table scale at held node e =
     let a = both_parts (one_number at 1 (held 1)) _ node e in
@@ -74,7 +74,7 @@ node_means table scale at held node e =
       is = n.1;
     }
 
-node_meant : (table : List (List ℕ)) (scale : Scale) (at : ℕ) (held : Held) (node : OsmNode) → MeansNode table scale held node → node_of table scale at (lists_by held) ≡ Ok node
+node_meant : (table : List (List ℕ)) (scale : Scale) (at : ℕ) (held : HeldNumbers) (node : OsmNode) → MeansNode table scale held node → node_of table scale at (lists_by held) ≡ Ok node
 unfolding node_of
 node_meant table scale at held node m =
     then_is (one_number at 1 (held 1)) m.id _ node (one_is at 1 (held 1) m.id m.has_id)
@@ -84,7 +84,7 @@ node_meant table scale at held node m =
     (then_is (tags_of table at m.pairs) node.tags _ node (tags_is table at m.pairs node.tags m.tags)
     (node_so scale (unzigzag_of m.id) (unzigzag_of m.lat) (unzigzag_of m.lon) node m.is)))))
 
-node_decides : (table : List (List ℕ)) (scale : Scale) (at : ℕ) (held : Held) → DecidesFrom (IsCauseIn table scale kinds.Node held) at (0, 0) (node_of table scale at (lists_by held))
+node_decides : (table : List (List ℕ)) (scale : Scale) (at : ℕ) (held : HeldNumbers) → DecidesFrom (IsCauseIn table scale kinds.Node held) at (0, 0) (node_of table scale at (lists_by held))
 unfolding node_of
 node_decides table scale at held =
     step_first In at (0, 0) (one_number at 1 (held 1)) _ (λ f e. let b = one_bad at 1 (held 1) f e in lacks_first table scale kinds.Node held at f 1 b.0 (inl refl) b.1 (λ n needed none. first_least n needed))
@@ -123,7 +123,7 @@ node_decides table scale at held =
     all_there id is lat also lon too n (inr (inl e)) none = some_last (held 8) lat (one_ok at 8 (held 8) lat also) (ap held (sym e) ∙ none)
     all_there id is lat also lon too n (inr (inr e)) none = some_last (held 9) lon (one_ok at 9 (held 9) lon too) (ap held (sym e) ∙ none)
 
-    names_one : (pairs : List (ℕ × ℕ)) → pairs_of at (held 2) (held 3) ≡ Ok pairs → (others : List Name) → AreNames kinds.Node held others → others ≡ tag_names pairs
+    names_one : (pairs : List (ℕ × ℕ)) → pairs_of at (held 2) (held 3) ≡ Ok pairs → (others : List NamedText) → AreNames kinds.Node held others → others ≡ tag_names pairs
     names_one pairs e others (also, are, is) = is ∙ ap tag_names (one_pairs (held 2) (held 3) also pairs are (pairs_ok at (held 2) (held 3) pairs e))
 
     last : (id : ℕ) → one_number at 1 (held 1) ≡ Ok id → (lat : ℕ) → one_number at 8 (held 8) ≡ Ok lat → (lon : ℕ) → one_number at 9 (held 9) ≡ Ok lon → (tags : List Tag)
@@ -153,7 +153,7 @@ node_decides table scale at held =
 
 -- ---- ways
 
-way_means : (table : List (List ℕ)) (at : ℕ) (held : Held) (way : OsmWay) → way_of table at (lists_by held) ≡ Ok way → MeansWay table held way
+way_means : (table : List (List ℕ)) (at : ℕ) (held : HeldNumbers) (way : OsmWay) → way_of table at (lists_by held) ≡ Ok way → MeansWay table held way
 unfolding way_of
 way_means table at held way e =
     let a = both_parts (one_number at 1 (held 1)) _ way e in
@@ -171,7 +171,7 @@ way_means table at held way e =
       refs = sums_ok at (held 8) r.0 r.1;
     })
 
-way_meant : (table : List (List ℕ)) (at : ℕ) (held : Held) (way : OsmWay) → MeansWay table held way → way_of table at (lists_by held) ≡ Ok way
+way_meant : (table : List (List ℕ)) (at : ℕ) (held : HeldNumbers) (way : OsmWay) → MeansWay table held way → way_of table at (lists_by held) ≡ Ok way
 unfolding way_of
 way_meant table at held way m =
     then_is (one_number at 1 (held 1)) m.id _ way (one_is at 1 (held 1) m.id m.has_id)
@@ -180,7 +180,7 @@ way_meant table at held way m =
     (then_is (tags_of table at m.pairs) way.tags _ way (tags_is table at m.pairs way.tags m.tags)
     (ap (λ (i : ℤ). Ok (record way { id = i })) (sym m.id_is)))))
 
-way_decides : (table : List (List ℕ)) (scale : Scale) (at : ℕ) (held : Held) → DecidesFrom (IsCauseIn table scale kinds.Way held) at (0, 0) (way_of table at (lists_by held))
+way_decides : (table : List (List ℕ)) (scale : Scale) (at : ℕ) (held : HeldNumbers) → DecidesFrom (IsCauseIn table scale kinds.Way held) at (0, 0) (way_of table at (lists_by held))
 unfolding way_of
 way_decides table scale at held =
     step_first In at (0, 0) (one_number at 1 (held 1)) _ (λ f e. let b = one_bad at 1 (held 1) f e in lacks_first table scale kinds.Way held at f 1 b.0 refl b.1 (λ n needed none. omega arith))
@@ -196,7 +196,7 @@ way_decides table scale at held =
     In : ObjectCause → Type 0
     In cause = IsCauseIn table scale kinds.Way held cause
 
-    names_one : (pairs : List (ℕ × ℕ)) → pairs_of at (held 2) (held 3) ≡ Ok pairs → (others : List Name) → AreNames kinds.Way held others → others ≡ tag_names pairs
+    names_one : (pairs : List (ℕ × ℕ)) → pairs_of at (held 2) (held 3) ≡ Ok pairs → (others : List NamedText) → AreNames kinds.Way held others → others ≡ tag_names pairs
     names_one pairs e others (also, are, is) = is ∙ ap tag_names (one_pairs (held 2) (held 3) also pairs are (pairs_ok at (held 2) (held 3) pairs e))
 
 -- ---- members
@@ -229,7 +229,7 @@ types_is at (k ∷ ks) = then_is (kind_of at (type_of k)) k (λ y. each (kind_of
     one members.Way = refl
     one members.Relation = refl
 
-types_bad : (at : ℕ) (types : List ℕ) (f : ObjectFault) → each (kind_of at) types ≡ Err f → (f ≡ faults.Uneven at) × Some_of (λ (type : ℕ). 2 < type) types
+types_bad : (at : ℕ) (types : List ℕ) (f : ObjectFault) → each (kind_of at) types ≡ Err f → (f ≡ faults.Uneven at) × HoldsOfOne (λ (type : ℕ). 2 < type) types
 types_bad at [] f e = absurd (ok_not_err [] f e)
 types_bad at (n ∷ ns) f e =
     elim (which_part (kind_of at n) (λ y. each (kind_of at) ns >>= λ ys. Ok (y ∷ ys)) f e) [
@@ -246,7 +246,7 @@ types_bad at (n ∷ ns) f e =
     one (suc (suc zero)) e = absurd (ok_not_err members.Relation f e)
     one (suc (suc (suc n))) e = (err_one {A = MemberKind} f (faults.Uneven at) (sym e), omega arith)
 
-no_other_type : (ks : List MemberKind) → Some_of (λ (type : ℕ). 2 < type) (map type_of ks) → ⊥
+no_other_type : (ks : List MemberKind) → HoldsOfOne (λ (type : ℕ). 2 < type) (map type_of ks) → ⊥
 no_other_type [] some = some
 no_other_type (k ∷ ks) (inl h) = one k h
   where
@@ -291,7 +291,7 @@ members_read table at [] [] (k ∷ ks) p q = absurd (omega arith)
 members_read table at (r ∷ rs) [] ks p q = absurd (omega arith)
 members_read table at (r ∷ rs) (i ∷ is) [] p q = absurd (omega arith)
 members_read table at (r ∷ rs) (i ∷ is) (k ∷ ks) p q =
-    reads_then table at (Role r ∷ []) (role_names rs) (text_at table at r) (λ text. members_of table at rs is ks >>= λ more. Ok (record { role = text; kind = k; id = i } ∷ more)) (role_read table at r)
+    reads_then table at (RoleText r ∷ []) (role_names rs) (text_at table at r) (λ text. members_of table at rs is ks >>= λ more. Ok (record { role = text; kind = k; id = i } ∷ more)) (role_read table at r)
     (λ text e. reads_end table at (role_names rs) (members_of table at rs is ks) (λ more. record { role = text; kind = k; id = i } ∷ more) (members_read table at rs is ks (omega arith) (omega arith)))
 
 -- ---- lengths
@@ -312,7 +312,7 @@ zip_length table (r ∷ rs) (m ∷ ms) zip = ap suc (zip_length table rs ms zip.
 
 -- ---- relations
 
-relation_means : (table : List (List ℕ)) (at : ℕ) (held : Held) (relation : OsmRelation) → relation_of table at (lists_by held) ≡ Ok relation → MeansRelation table held relation
+relation_means : (table : List (List ℕ)) (at : ℕ) (held : HeldNumbers) (relation : OsmRelation) → relation_of table at (lists_by held) ≡ Ok relation → MeansRelation table held relation
 unfolding relation_of
 relation_means table at held relation e =
     let a = both_parts (one_number at 1 (held 1)) _ relation e in
@@ -341,7 +341,7 @@ relation_means table at held relation e =
       types = types ∙ ap (map type_of) (sym ms.2) ∙ mapped_twice m.0;
     })
 
-relation_meant : (table : List (List ℕ)) (at : ℕ) (held : Held) (relation : OsmRelation) → MeansRelation table held relation → relation_of table at (lists_by held) ≡ Ok relation
+relation_meant : (table : List (List ℕ)) (at : ℕ) (held : HeldNumbers) (relation : OsmRelation) → MeansRelation table held relation → relation_of table at (lists_by held) ≡ Ok relation
 unfolding relation_of
 relation_meant table at held relation m =
     let ids = map (λ (member : Member). member.id) relation.members in
@@ -360,7 +360,7 @@ relation_meant table at held relation m =
     (then_is (members_of table at (held 8) ids ks) relation.members _ relation (members_is table at (held 8) relation.members m.roles)
     (ap (λ (i : ℤ). Ok (record relation { id = i })) (sym m.id_is)))))))))
 
-relation_decides : (table : List (List ℕ)) (scale : Scale) (at : ℕ) (held : Held) → DecidesFrom (IsCauseIn table scale kinds.Relation held) at (0, 0) (relation_of table at (lists_by held))
+relation_decides : (table : List (List ℕ)) (scale : Scale) (at : ℕ) (held : HeldNumbers) → DecidesFrom (IsCauseIn table scale kinds.Relation held) at (0, 0) (relation_of table at (lists_by held))
 unfolding relation_of
 relation_decides table scale at held =
     step_first In at (0, 0) (one_number at 1 (held 1)) _ (λ f e. let b = one_bad at 1 (held 1) f e in lacks_first table scale kinds.Relation held at f 1 b.0 refl b.1 (λ n needed none. omega arith))
@@ -383,16 +383,16 @@ relation_decides table scale at held =
     In : ObjectCause → Type 0
     In cause = IsCauseIn table scale kinds.Relation held cause
 
-    all_names : List (ℕ × ℕ) → List Name
+    all_names : List (ℕ × ℕ) → List NamedText
     all_names pairs = tag_names pairs ++ role_names (held 8)
 
     not_odd : (pairs : List (ℕ × ℕ)) → pairs_of at (held 2) (held 3) ≡ Ok pairs → (u : Unit {0}) → as_many at (held 8) (held 9) ≡ Ok u → (v : Unit {0}) → as_many at (held 8) (held 10) ≡ Ok v → (ks : List MemberKind) → each (kind_of at) (held 10) ≡ Ok ks → IsUneven kinds.Relation held → ⊥
     not_odd pairs p u i v t ks k (inl odd) = odd (pairs_even (held 2) (held 3) pairs (pairs_ok at (held 2) (held 3) pairs p))
     not_odd pairs p u i v t ks k (inr (inl odd)) = odd (many_ok at (held 8) (held 9) u i)
     not_odd pairs p u i v t ks k (inr (inr (inl odd))) = odd (many_ok at (held 8) (held 10) v t)
-    not_odd pairs p u i v t ks k (inr (inr (inr some))) = no_other_type ks (subst (Some_of (λ (type : ℕ). 2 < type)) (types_ok at (held 10) ks k) some)
+    not_odd pairs p u i v t ks k (inr (inr (inr some))) = no_other_type ks (subst (HoldsOfOne (λ (type : ℕ). 2 < type)) (types_ok at (held 10) ks k) some)
 
-    names_one : (pairs : List (ℕ × ℕ)) → pairs_of at (held 2) (held 3) ≡ Ok pairs → (others : List Name) → AreNames kinds.Relation held others → others ≡ all_names pairs
+    names_one : (pairs : List (ℕ × ℕ)) → pairs_of at (held 2) (held 3) ≡ Ok pairs → (others : List NamedText) → AreNames kinds.Relation held others → others ≡ all_names pairs
     names_one pairs e others (also, are, is) = is ∙ ap all_names (one_pairs (held 2) (held 3) also pairs are (pairs_ok at (held 2) (held 3) pairs e))
 
     names_read : (pairs : List (ℕ × ℕ)) (u : Unit {0}) → as_many at (held 8) (held 9) ≡ Ok u → (v : Unit {0}) → as_many at (held 8) (held 10) ≡ Ok v → (ks : List MemberKind) → each (kind_of at) (held 10) ≡ Ok ks → (ids : List ℤ) → sums_of at (held 9) ≡ Ok ids → (id : ℤ)
@@ -406,7 +406,7 @@ relation_decides table scale at held =
 
 -- rows of four lists of one length
 record RowsOf (ids lats lons : List ℤ) (groups : Groups) : Type 0 where
-  rows : List Row
+  rows : List DenseRow
   ids_are : ids_of rows ≡ ids
   lats_are : lats_of rows ≡ lats
   lons_are : lons_of rows ≡ lons
@@ -431,7 +431,7 @@ rows_by (i ∷ is) (x ∷ xs) (z ∷ zs) (g ∷ gs) p q r =
     }
 
 -- what has been seen of a dense message, before its texts
-record DenseParts (at : ℕ) (held : Held) (groups : Groups) (ids lats lons : List ℤ) : Type 0 where
+record DenseParts (at : ℕ) (held : HeldNumbers) (groups : Groups) (ids lats lons : List ℤ) : Type 0 where
   lats_even : length (held 1) ≡ length (held 8)
   lons_even : length (held 1) ≡ length (held 9)
   groups_so : groups_of at (length (held 1)) (held 10) ≡ Ok groups
@@ -439,7 +439,7 @@ record DenseParts (at : ℕ) (held : Held) (groups : Groups) (ids lats lons : Li
   lats_so : sums_of at (held 8) ≡ Ok lats
   lons_so : sums_of at (held 9) ≡ Ok lons
 
-dense_rows : (at : ℕ) (held : Held) (groups : Groups) (ids lats lons : List ℤ) → DenseParts at held groups ids lats lons → RowsOf ids lats lons groups
+dense_rows : (at : ℕ) (held : HeldNumbers) (groups : Groups) (ids lats lons : List ℤ) → DenseParts at held groups ids lats lons → RowsOf ids lats lons groups
 dense_rows at held groups ids lats lons parts =
     let i = sums_ok at (held 1) ids parts.ids_so in
     let a = sums_ok at (held 8) lats parts.lats_so in
@@ -457,7 +457,7 @@ by_rows table scale at groups ids lats lons rows =
     ∙ ap (λ (zs : List ℤ). each (tags_of table at) (groups_of_rows rows.rows) >>= λ tag_lists. nodes_at scale (ids_of rows.rows) (lats_of rows.rows) zs tag_lists) (sym rows.lons_are)
 
 -- what the chain is made of
-record DenseChain (table : List (List ℕ)) (scale : Scale) (at : ℕ) (held : Held) (nodes : List OsmNode) : Type 0 where
+record DenseChain (table : List (List ℕ)) (scale : Scale) (at : ℕ) (held : HeldNumbers) (nodes : List OsmNode) : Type 0 where
   groups : Groups
   ids : List ℤ
   lats : List ℤ
@@ -465,7 +465,7 @@ record DenseChain (table : List (List ℕ)) (scale : Scale) (at : ℕ) (held : H
   parts : DenseParts at held groups ids lats lons
   nodes_so : grouped_nodes table scale at groups ids lats lons ≡ Ok nodes
 
-dense_chain : (table : List (List ℕ)) (scale : Scale) (at : ℕ) (held : Held) (nodes : List OsmNode) → dense_of table scale at (lists_by held) ≡ Ok nodes → DenseChain table scale at held nodes
+dense_chain : (table : List (List ℕ)) (scale : Scale) (at : ℕ) (held : HeldNumbers) (nodes : List OsmNode) → dense_of table scale at (lists_by held) ≡ Ok nodes → DenseChain table scale at held nodes
 unfolding dense_of
 dense_chain table scale at held nodes e =
     let a = both_parts (as_many at (held 1) (held 8)) _ nodes e in
@@ -483,7 +483,7 @@ dense_chain table scale at held nodes e =
       nodes_so = z.2;
     }
 
-dense_means : (table : List (List ℕ)) (scale : Scale) (at : ℕ) (held : Held) (nodes : List OsmNode) → dense_of table scale at (lists_by held) ≡ Ok nodes → MeansDense table scale held nodes
+dense_means : (table : List (List ℕ)) (scale : Scale) (at : ℕ) (held : HeldNumbers) (nodes : List OsmNode) → dense_of table scale at (lists_by held) ≡ Ok nodes → MeansDense table scale held nodes
 dense_means table scale at held nodes e =
     let chain = dense_chain table scale at held nodes e in
     let rows = dense_rows at held chain.groups chain.ids chain.lats chain.lons chain.parts in
@@ -497,17 +497,17 @@ dense_means table scale at held nodes e =
       gives = (rows_ok table scale at rows.rows n.0 nodes n.1 n.2).0;
     }
 
-dense_meant : (table : List (List ℕ)) (scale : Scale) (at : ℕ) (held : Held) (nodes : List OsmNode) → MeansDense table scale held nodes → dense_of table scale at (lists_by held) ≡ Ok nodes
+dense_meant : (table : List (List ℕ)) (scale : Scale) (at : ℕ) (held : HeldNumbers) (nodes : List OsmNode) → MeansDense table scale held nodes → dense_of table scale at (lists_by held) ≡ Ok nodes
 unfolding dense_of
 dense_meant table scale at held nodes m =
     let ids = ids_of m.rows in
     let lats = lats_of m.rows in
     let lons = lons_of m.rows in
     let groups = groups_of_rows m.rows in
-    let n = mapped_length (λ (row : Row). row.id) m.rows in
-    let lats_even : length (held 1) ≡ length (held 8) = sym m.ids.many ∙ n ∙ sym (mapped_length (λ (row : Row). row.lat) m.rows) ∙ m.lats.many in
-    let lons_even : length (held 1) ≡ length (held 9) = sym m.ids.many ∙ n ∙ sym (mapped_length (λ (row : Row). row.lon) m.rows) ∙ m.lons.many in
-    let groups_even : length groups ≡ length (held 1) = mapped_length (λ (row : Row). row.group) m.rows ∙ sym n ∙ m.ids.many in
+    let n = mapped_length (λ (row : DenseRow). row.id) m.rows in
+    let lats_even : length (held 1) ≡ length (held 8) = sym m.ids.many ∙ n ∙ sym (mapped_length (λ (row : DenseRow). row.lat) m.rows) ∙ m.lats.many in
+    let lons_even : length (held 1) ≡ length (held 9) = sym m.ids.many ∙ n ∙ sym (mapped_length (λ (row : DenseRow). row.lon) m.rows) ∙ m.lons.many in
+    let groups_even : length groups ≡ length (held 1) = mapped_length (λ (row : DenseRow). row.group) m.rows ∙ sym n ∙ m.ids.many in
     let so = rows_is table scale at m.rows nodes m.gives in
     then_is (as_many at (held 1) (held 8)) tt _ nodes (many_is at (held 1) (held 8) lats_even)
     (then_is (as_many at (held 1) (held 9)) tt _ nodes (many_is at (held 1) (held 9) lons_even)
@@ -525,23 +525,23 @@ row_at sums ds place z are h e = inside z (sum_at place ds) (sym e ∙ are.each 
     inside : (x y : ℤ) → ◌≡◌ {A = Option ℤ} (Some x) (Some y) → x ≡ y
     inside x y h = cc
 
-mapped_at : {B : Type 0} (f : Row → B) (rows : List Row) (place : ℕ) (row : Row) → slice_get rows place ≡ Some row → slice_get (map f rows) place ≡ Some (f row)
+mapped_at : {B : Type 0} (f : DenseRow → B) (rows : List DenseRow) (place : ℕ) (row : DenseRow) → slice_get rows place ≡ Some row → slice_get (map f rows) place ≡ Some (f row)
 mapped_at f [] place row e = absurd (nothing e)
   where
-    nothing : ◌≡◌ {A = Option Row} None (Some row) → ⊥
+    nothing : ◌≡◌ {A = Option DenseRow} None (Some row) → ⊥
     nothing h = cc
 mapped_at f (r ∷ rows) zero row e = ap (λ x. Some (f x)) (inside r row e)
   where
-    inside : (x y : Row) → ◌≡◌ {A = Option Row} (Some x) (Some y) → x ≡ y
+    inside : (x y : DenseRow) → ◌≡◌ {A = Option DenseRow} (Some x) (Some y) → x ≡ y
     inside x y h = cc
 mapped_at f (r ∷ rows) (suc place) row e = mapped_at f rows place row e
 
-some_row : (rows : List Row) (place : ℕ) → place < length rows → (row : Row) × (slice_get rows place ≡ Some row)
+some_row : (rows : List DenseRow) (place : ℕ) → place < length rows → (row : DenseRow) × (slice_get rows place ≡ Some row)
 some_row [] place h = absurd (omega arith)
 some_row (r ∷ rows) zero h = (r, refl)
 some_row (r ∷ rows) (suc place) h = some_row rows place (omega arith)
 
-dense_places : (table : List (List ℕ)) (scale : Scale) (at : ℕ) (held : Held) (groups : Groups) (ids lats lons : List ℤ) → DenseParts at held groups ids lats lons → (tag_lists : List (List Tag)) → (rows : RowsOf ids lats lons groups)
+dense_places : (table : List (List ℕ)) (scale : Scale) (at : ℕ) (held : HeldNumbers) (groups : Groups) (ids lats lons : List ℤ) → DenseParts at held groups ids lats lons → (tag_lists : List (List Tag)) → (rows : RowsOf ids lats lons groups)
     → each (tags_of table at) (groups_of_rows rows.rows) ≡ Ok tag_lists
     → DecidesFrom (IsCauseIn table scale kinds.Dense held) at (4, 0) (nodes_at scale (ids_of rows.rows) (lats_of rows.rows) (lons_of rows.rows) tag_lists)
 dense_places table scale at held groups ids lats lons parts tag_lists rows t = record {
@@ -556,9 +556,9 @@ dense_places table scale at held groups ids lats lons parts tag_lists rows t = r
       place_first table scale kinds.Dense held at f place b.row.id b.fault_is
       (record {
         within = within;
-        id_is = row_at ids (held 1) place b.row.id id_sums within (ap (λ l. slice_get l place) (sym rows.ids_are) ∙ mapped_at (λ (row : Row). row.id) rows.rows place b.row here);
-        off = subst (λ x. IsOffEarth scale x (sum_at place (held 9))) (row_at lats (held 8) place b.row.lat lat_sums (subst (λ n. place < n) parts.lats_even within) (ap (λ l. slice_get l place) (sym rows.lats_are) ∙ mapped_at (λ (row : Row). row.lat) rows.rows place b.row here))
-            (subst (λ x. IsOffEarth scale b.row.lat x) (row_at lons (held 9) place b.row.lon lon_sums (subst (λ n. place < n) parts.lons_even within) (ap (λ l. slice_get l place) (sym rows.lons_are) ∙ mapped_at (λ (row : Row). row.lon) rows.rows place b.row here)) b.bad);
+        id_is = row_at ids (held 1) place b.row.id id_sums within (ap (λ l. slice_get l place) (sym rows.ids_are) ∙ mapped_at (λ (row : DenseRow). row.id) rows.rows place b.row here);
+        off = subst (λ x. IsOffEarth scale x (sum_at place (held 9))) (row_at lats (held 8) place b.row.lat lat_sums (subst (λ n. place < n) parts.lats_even within) (ap (λ l. slice_get l place) (sym rows.lats_are) ∙ mapped_at (λ (row : DenseRow). row.lat) rows.rows place b.row here))
+            (subst (λ x. IsOffEarth scale b.row.lat x) (row_at lons (held 9) place b.row.lon lon_sums (subst (λ n. place < n) parts.lons_even within) (ap (λ l. slice_get l place) (sym rows.lons_are) ∙ mapped_at (λ (row : DenseRow). row.lon) rows.rows place b.row here)) b.bad);
       })
       (λ p i off.
       let r = row_of p off in
@@ -575,23 +575,23 @@ dense_places table scale at held groups ids lats lons parts tag_lists rows t = r
     lon_sums = sums_ok at (held 9) lons parts.lons_so
 
     lens : length rows.rows ≡ length (held 1)
-    lens = sym (mapped_length (λ (row : Row). row.id) rows.rows) ∙ ap (λ l. length l) rows.ids_are ∙ id_sums.many
+    lens = sym (mapped_length (λ (row : DenseRow). row.id) rows.rows) ∙ ap (λ l. length l) rows.ids_are ∙ id_sums.many
 
-    below : (before : List Row) (row : Row) (after all : List Row) → all ≡ before ++ row ∷ after → length before < length all
+    below : (before : List DenseRow) (row : DenseRow) (after all : List DenseRow) → all ≡ before ++ row ∷ after → length before < length all
     below before row after all e = rw e (by before)
       where
-        by : (before : List Row) → length before < length (before ++ row ∷ after)
+        by : (before : List DenseRow) → length before < length (before ++ row ∷ after)
         by [] = omega arith
         by (x ∷ before) = let more = by before in omega arith
 
-    row_of : (p : ℕ) {i : ℤ} → IsRowOff scale held p i → (row : Row) × (slice_get rows.rows p ≡ Some row) × IsOff scale row
+    row_of : (p : ℕ) {i : ℤ} → IsRowOff scale held p i → (row : DenseRow) × (slice_get rows.rows p ≡ Some row) × IsOff scale row
     row_of p off =
         let r = some_row rows.rows p (subst (λ n. p < n) (sym lens) off.within) in
-        let a = row_at lats (held 8) p r.0.lat lat_sums (subst (λ n. p < n) parts.lats_even off.within) (ap (λ l. slice_get l p) (sym rows.lats_are) ∙ mapped_at (λ (row : Row). row.lat) rows.rows p r.0 r.1) in
-        let o = row_at lons (held 9) p r.0.lon lon_sums (subst (λ n. p < n) parts.lons_even off.within) (ap (λ l. slice_get l p) (sym rows.lons_are) ∙ mapped_at (λ (row : Row). row.lon) rows.rows p r.0 r.1) in
+        let a = row_at lats (held 8) p r.0.lat lat_sums (subst (λ n. p < n) parts.lats_even off.within) (ap (λ l. slice_get l p) (sym rows.lats_are) ∙ mapped_at (λ (row : DenseRow). row.lat) rows.rows p r.0 r.1) in
+        let o = row_at lons (held 9) p r.0.lon lon_sums (subst (λ n. p < n) parts.lons_even off.within) (ap (λ l. slice_get l p) (sym rows.lons_are) ∙ mapped_at (λ (row : DenseRow). row.lon) rows.rows p r.0 r.1) in
         (r.0, r.1, subst (λ x. IsOffEarth scale x r.0.lon) (sym a) (subst (λ x. IsOffEarth scale (sum_at p (held 8)) x) (sym o) off.off))
 
-dense_decides : (table : List (List ℕ)) (scale : Scale) (at : ℕ) (held : Held) → DecidesFrom (IsCauseIn table scale kinds.Dense held) at (0, 0) (dense_of table scale at (lists_by held))
+dense_decides : (table : List (List ℕ)) (scale : Scale) (at : ℕ) (held : HeldNumbers) → DecidesFrom (IsCauseIn table scale kinds.Dense held) at (0, 0) (dense_of table scale at (lists_by held))
 unfolding dense_of
 dense_decides table scale at held =
     step_over In at (0, 0) (1, 0) _ (over_lacks table scale kinds.Dense held at (λ n needed none. needed))
@@ -618,7 +618,7 @@ dense_decides table scale at held =
     not_past ids i lats x lons z (inr (inl bad)) = no_bad_sum (held 8) lats (sums_ok at (held 8) lats x) bad
     not_past ids i lats x lons z (inr (inr bad)) = no_bad_sum (held 9) lons (sums_ok at (held 9) lons z) bad
 
-    names_one : (groups : Groups) → groups_of at (length (held 1)) (held 10) ≡ Ok groups → (others : List Name) → AreNames kinds.Dense held others → others ≡ tag_names (pairs_in groups)
+    names_one : (groups : Groups) → groups_of at (length (held 1)) (held 10) ≡ Ok groups → (others : List NamedText) → AreNames kinds.Dense held others → others ≡ tag_names (pairs_in groups)
     names_one groups g others (also, are, many, is) =
         let mine = groups_ok at (length (held 1)) (held 10) groups g in
         is ∙ ap (λ gs. tag_names (pairs_in gs)) (one_groups (held 10) (length (held 1)) also groups are mine.0 many mine.1)
@@ -637,7 +637,7 @@ dense_decides table scale at held =
 
 -- ---- any object
 
-pub kind_means : (kind : ObjectKind) (table : List (List ℕ)) (scale : Scale) (at : ℕ) (held : Held) (given : Objects) → meaning_of kind table scale at (lists_by held) ≡ Ok given → MeansObject kind table scale held given
+pub kind_means : (kind : ObjectKind) (table : List (List ℕ)) (scale : Scale) (at : ℕ) (held : HeldNumbers) (given : Objects) → meaning_of kind table scale at (lists_by held) ≡ Ok given → MeansObject kind table scale held given
 kind_means kinds.Node table scale at held given e =
     let n = both_parts (node_of table scale at (lists_by held)) (λ node. Ok (just_nodes (node ∷ []))) given e in
     (n.0, node_means table scale at held n.0 n.1, sym (ok_one (just_nodes (n.0 ∷ [])) given n.2))
@@ -651,13 +651,13 @@ kind_means kinds.Relation table scale at held given e =
     let n = both_parts (relation_of table at (lists_by held)) (λ relation. Ok (just_relations (relation ∷ []))) given e in
     (n.0, relation_means table at held n.0 n.1, sym (ok_one (just_relations (n.0 ∷ [])) given n.2))
 
-pub kind_meant : (kind : ObjectKind) (table : List (List ℕ)) (scale : Scale) (at : ℕ) (held : Held) (given : Objects) → MeansObject kind table scale held given → meaning_of kind table scale at (lists_by held) ≡ Ok given
+pub kind_meant : (kind : ObjectKind) (table : List (List ℕ)) (scale : Scale) (at : ℕ) (held : HeldNumbers) (given : Objects) → MeansObject kind table scale held given → meaning_of kind table scale at (lists_by held) ≡ Ok given
 kind_meant kinds.Node table scale at held given (node, means, is) = then_is (node_of table scale at (lists_by held)) node (λ node. Ok (just_nodes (node ∷ []))) given (node_meant table scale at held node means) (ap (λ o. Ok o) (sym is))
 kind_meant kinds.Dense table scale at held given (nodes, means, is) = then_is (dense_of table scale at (lists_by held)) nodes (λ nodes. Ok (just_nodes nodes)) given (dense_meant table scale at held nodes means) (ap (λ o. Ok o) (sym is))
 kind_meant kinds.Way table scale at held given (way, means, is) = then_is (way_of table at (lists_by held)) way (λ way. Ok (just_ways (way ∷ []))) given (way_meant table at held way means) (ap (λ o. Ok o) (sym is))
 kind_meant kinds.Relation table scale at held given (relation, means, is) = then_is (relation_of table at (lists_by held)) relation (λ relation. Ok (just_relations (relation ∷ []))) given (relation_meant table at held relation means) (ap (λ o. Ok o) (sym is))
 
-pub kind_decides : (kind : ObjectKind) (table : List (List ℕ)) (scale : Scale) (at : ℕ) (held : Held) → DecidesFrom (IsCauseIn table scale kind held) at (0, 0) (meaning_of kind table scale at (lists_by held))
+pub kind_decides : (kind : ObjectKind) (table : List (List ℕ)) (scale : Scale) (at : ℕ) (held : HeldNumbers) → DecidesFrom (IsCauseIn table scale kind held) at (0, 0) (meaning_of kind table scale at (lists_by held))
 kind_decides kinds.Node table scale at held = step_value (IsCauseIn table scale kinds.Node held) at (0, 0) (node_of table scale at (lists_by held)) (λ node. just_nodes (node ∷ [])) (node_decides table scale at held)
 kind_decides kinds.Dense table scale at held = step_value (IsCauseIn table scale kinds.Dense held) at (0, 0) (dense_of table scale at (lists_by held)) (λ nodes. just_nodes nodes) (dense_decides table scale at held)
 kind_decides kinds.Way table scale at held = step_value (IsCauseIn table scale kinds.Way held) at (0, 0) (way_of table at (lists_by held)) (λ way. just_ways (way ∷ [])) (way_decides table scale at held)
@@ -665,27 +665,27 @@ kind_decides kinds.Relation table scale at held = step_value (IsCauseIn table sc
 
 -- ---- one fault at one rank
 
-names_same : (kind : ObjectKind) (held : Held) (one other : List Name) → AreNames kind held one → AreNames kind held other → one ≡ other
+names_same : (kind : ObjectKind) (held : HeldNumbers) (one other : List NamedText) → AreNames kind held one → AreNames kind held other → one ≡ other
 names_same kinds.Node held one other (a, p, e) (b, q, f) = e ∙ ap tag_names (one_pairs (held 2) (held 3) a b p q) ∙ sym f
 names_same kinds.Dense held one other (a, p, m, e) (b, q, n, f) = e ∙ ap (λ gs. tag_names (pairs_in gs)) (one_groups (held 10) (length (held 1)) a b p q m n) ∙ sym f
 names_same kinds.Way held one other (a, p, e) (b, q, f) = e ∙ ap tag_names (one_pairs (held 2) (held 3) a b p q) ∙ sym f
 names_same kinds.Relation held one other (a, p, e) (b, q, f) = e ∙ ap (λ pairs. tag_names pairs ++ role_names (held 8)) (one_pairs (held 2) (held 3) a b p q) ∙ sym f
 
-one_id : (kind : ObjectKind) (scale : Scale) (held : Held) (place : ℕ) (a b : ℤ) → IsMisplaced kind scale held place a → IsMisplaced kind scale held place b → a ≡ b
+one_id : (kind : ObjectKind) (scale : Scale) (held : HeldNumbers) (place : ℕ) (a b : ℤ) → IsMisplaced kind scale held place a → IsMisplaced kind scale held place b → a ≡ b
 one_id kinds.Node scale held place a b p q = p.id_is ∙ ap (λ n. unzigzag_of n) (one_last (held 1) p.number q.number p.has_id q.has_id) ∙ sym q.id_is
 one_id kinds.Dense scale held place a b p q = p.id_is ∙ sym q.id_is
 one_id kinds.Way scale held place a b p q = absurd p
 one_id kinds.Relation scale held place a b p q = absurd p
 
-one_index : (table : List (List ℕ)) (kind : ObjectKind) (held : Held) (place a b : ℕ) → HasBadName table kind held place a → HasBadName table kind held place b → a ≡ b
+one_index : (table : List (List ℕ)) (kind : ObjectKind) (held : HeldNumbers) (place a b : ℕ) → HasBadName table kind held place a → HasBadName table kind held place b → a ≡ b
 one_index table kind held place a b p q =
     let same = inside p.name q.name (sym p.stands ∙ ap (λ l. slice_get l place) (names_same kind held p.names q.names p.are_names q.are_names) ∙ q.stands) in
     p.index_is ∙ ap index_of same ∙ sym q.index_is
   where
-    inside : (x y : Name) → ◌≡◌ {A = Option Name} (Some x) (Some y) → x ≡ y
+    inside : (x y : NamedText) → ◌≡◌ {A = Option NamedText} (Some x) (Some y) → x ≡ y
     inside x y h = cc
 
-pub one_fault : (table : List (List ℕ)) (scale : Scale) (kind : ObjectKind) (held : Held) (at : ℕ) (c d : ObjectCause) → IsCauseIn table scale kind held c → IsCauseIn table scale kind held d → (rank_of c).0 ≡ (rank_of d).0 → (rank_of c).1 ≡ (rank_of d).1 → fault_of at c ≡ fault_of at d
+pub one_fault : (table : List (List ℕ)) (scale : Scale) (kind : ObjectKind) (held : HeldNumbers) (at : ℕ) (c d : ObjectCause) → IsCauseIn table scale kind held c → IsCauseIn table scale kind held d → (rank_of c).0 ≡ (rank_of d).0 → (rank_of c).1 ≡ (rank_of d).1 → fault_of at c ≡ fault_of at d
 one_fault table scale kind held at (Lacks m) (Lacks n) p q o r = ap (λ k. faults.MissingField at k) r
 one_fault table scale kind held at (Lacks m) IsOdd p q o r = absurd (omega arith)
 one_fault table scale kind held at (Lacks m) IsPast p q o r = absurd (omega arith)
@@ -714,15 +714,15 @@ one_fault table scale kind held at (NoPlace x i) (NoPlace y j) p q o r = ap (λ 
 
 -- ---- the first fault of an object
 
-pub first_fault : (kind : ObjectKind) (table : List (List ℕ)) (scale : Scale) (at : ℕ) (held : Held) (f : ObjectFault) → meaning_of kind table scale at (lists_by held) ≡ Err f → IsFirstCause table scale kind held at f
+pub first_fault : (kind : ObjectKind) (table : List (List ℕ)) (scale : Scale) (at : ℕ) (held : HeldNumbers) (f : ObjectFault) → meaning_of kind table scale at (lists_by held) ≡ Err f → IsFirstCause table scale kind held at f
 first_fault kind table scale at held f e =
     let b = (kind_decides kind table scale at held).bad f e in
     record { cause = b.cause; stands = b.stands; fault_is = b.fault_is; first = λ other stands. b.first other stands (from_zero (rank_of other)) }
 
-pub no_fault : (kind : ObjectKind) (table : List (List ℕ)) (scale : Scale) (at : ℕ) (held : Held) (given : Objects) → meaning_of kind table scale at (lists_by held) ≡ Ok given → (cause : ObjectCause) → IsCauseIn table scale kind held cause → ⊥
+pub no_fault : (kind : ObjectKind) (table : List (List ℕ)) (scale : Scale) (at : ℕ) (held : HeldNumbers) (given : Objects) → meaning_of kind table scale at (lists_by held) ≡ Ok given → (cause : ObjectCause) → IsCauseIn table scale kind held cause → ⊥
 no_fault kind table scale at held given e cause stands = (kind_decides kind table scale at held).good given e cause stands (from_zero (rank_of cause))
 
-pub fault_so : (kind : ObjectKind) (table : List (List ℕ)) (scale : Scale) (at : ℕ) (held : Held) (f : ObjectFault) → IsFirstCause table scale kind held at f → meaning_of kind table scale at (lists_by held) ≡ Err f
+pub fault_so : (kind : ObjectKind) (table : List (List ℕ)) (scale : Scale) (at : ℕ) (held : HeldNumbers) (f : ObjectFault) → IsFirstCause table scale kind held at f → meaning_of kind table scale at (lists_by held) ≡ Err f
 fault_so kind table scale at held f first =
     elim (either_way (meaning_of kind table scale at (lists_by held))) [
       | inl h ↦ absurd (no_fault kind table scale at held h.0 h.1 first.cause first.stands)

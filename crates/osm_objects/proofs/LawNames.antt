@@ -13,8 +13,8 @@ use Rattle.osm_objects.specs.declared.fault.ObjectFault.TheVariants as faults
 use Rattle.osm_objects.specs.Steps.{◌>>=◌, each, each_joined}
 use Rattle.osm_objects.specs.KeptKeys.{road_keys, access_keys, relation_keys, is_among, is_kept}
 use Rattle.osm_objects.specs.Tags.{found, bytes_at, as_text, text_at, kept_tag, dropped_tag, keeps, tag_of, tags_of}
-use Rattle.osm_objects.specs.Means.{Some_of, IsText, IsUtf8Text, kept_keys, IsKept, IsTagOf, GivesTag, AreTags}
-use Rattle.osm_objects.specs.Causes.{Name, Key, Value, Role, index_of, IsBadText, IsBadName, tag_names, pairs_in, role_names}
+use Rattle.osm_objects.specs.Means.{HoldsOfOne, HasTextAt, IsUtf8Text, kept_keys, IsKept, IsTagOf, GivesTag, AreTags}
+use Rattle.osm_objects.specs.Causes.{NamedText, KeyText, ValueText, RoleText, index_of, IsBadText, IsBadName, tag_names, pairs_in, role_names}
 use Rattle.osm_objects.proofs.LawParts.{ok_one, err_one, ok_not_err, both_parts, which_part, then_is, Groups}
 
 true_false : {b : Bool} → b ≡ true → b ≡ false → ⊥
@@ -42,15 +42,15 @@ bytes_same : (xs : List ℕ) → bytes_eq xs xs ≡ true
 bytes_same [] = refl
 bytes_same (x ∷ xs) = ap (λ b. b && bytes_eq xs xs) (same_test x) ∙ bytes_same xs
 
-among_some : (key : List ℕ) (keys : List (List ℕ)) → is_among key keys ≡ true → Some_of (λ (kept : List ℕ). key ≡ kept) keys
+among_some : (key : List ℕ) (keys : List (List ℕ)) → is_among key keys ≡ true → HoldsOfOne (λ (kept : List ℕ). key ≡ kept) keys
 among_some key [] e = absurd cc
 among_some key (k ∷ ks) e = by (bytes_eq key k) refl (among_some key ks) e
   where
-    by : (b : Bool) → bytes_eq key k ≡ b → (is_among key ks ≡ true → Some_of (λ (kept : List ℕ). key ≡ kept) ks) → (b || is_among key ks) ≡ true → (key ≡ k) ⊎ Some_of (λ (kept : List ℕ). key ≡ kept) ks
+    by : (b : Bool) → bytes_eq key k ≡ b → (is_among key ks ≡ true → HoldsOfOne (λ (kept : List ℕ). key ≡ kept) ks) → (b || is_among key ks) ≡ true → (key ≡ k) ⊎ HoldsOfOne (λ (kept : List ℕ). key ≡ kept) ks
     by true h rest e = inl (same_bytes key k h)
     by false h rest e = inr (rest e)
 
-some_among : (key : List ℕ) (keys : List (List ℕ)) → Some_of (λ (kept : List ℕ). key ≡ kept) keys → is_among key keys ≡ true
+some_among : (key : List ℕ) (keys : List (List ℕ)) → HoldsOfOne (λ (kept : List ℕ). key ≡ kept) keys → is_among key keys ≡ true
 some_among key [] some = absurd some
 some_among key (k ∷ ks) (inl e) = ap (λ b. b || is_among key ks) (ap (bytes_eq key) (sym e) ∙ bytes_same key)
 some_among key (k ∷ ks) (inr some) = by (bytes_eq key k) (some_among key ks some)
@@ -59,16 +59,16 @@ some_among key (k ∷ ks) (inr some) = by (bytes_eq key k) (some_among key ks so
     by true e = refl
     by false e = e
 
-some_left : {A : Type 0} (P : A → Type 0) (xs ys : List A) → Some_of P xs → Some_of P (xs ++ ys)
+some_left : {A : Type 0} (P : A → Type 0) (xs ys : List A) → HoldsOfOne P xs → HoldsOfOne P (xs ++ ys)
 some_left P [] ys some = absurd some
 some_left P (x ∷ xs) ys (inl p) = inl p
 some_left P (x ∷ xs) ys (inr p) = inr (some_left P xs ys p)
 
-some_right : {A : Type 0} (P : A → Type 0) (xs ys : List A) → Some_of P ys → Some_of P (xs ++ ys)
+some_right : {A : Type 0} (P : A → Type 0) (xs ys : List A) → HoldsOfOne P ys → HoldsOfOne P (xs ++ ys)
 some_right P [] ys some = some
 some_right P (x ∷ xs) ys some = inr (some_right P xs ys some)
 
-some_which : {A : Type 0} (P : A → Type 0) (xs ys : List A) → Some_of P (xs ++ ys) → Some_of P xs ⊎ Some_of P ys
+some_which : {A : Type 0} (P : A → Type 0) (xs ys : List A) → HoldsOfOne P (xs ++ ys) → HoldsOfOne P xs ⊎ HoldsOfOne P ys
 some_which P [] ys some = inr some
 some_which P (x ∷ xs) ys (inl p) = inl (inl p)
 some_which P (x ∷ xs) ys (inr p) = elim (some_which P xs ys p) [ inl h ↦ inl (inr h) | inr h ↦ inr h ]
@@ -114,11 +114,11 @@ kept_is : (key : List ℕ) → is_kept key ≡ true → IsKept key
 unfolding is_kept
 kept_is key e =
     elim (one_or (is_among key road_keys) (is_among key access_keys) (is_among key relation_keys) (starts_with nat_eq key (codes "restriction:")) e) [
-      | inl a ↦ inl (subst (Some_of (IsThis key)) (sym keys_are) (some_left (IsThis key) road_keys (access_keys ++ relation_keys) (among_some key road_keys a)))
+      | inl a ↦ inl (subst (HoldsOfOne (IsThis key)) (sym keys_are) (some_left (IsThis key) road_keys (access_keys ++ relation_keys) (among_some key road_keys a)))
       | inr h ↦ elim h [
-        | inl b ↦ inl (subst (Some_of (IsThis key)) (sym keys_are) (some_right (IsThis key) road_keys (access_keys ++ relation_keys) (some_left (IsThis key) access_keys relation_keys (among_some key access_keys b))))
+        | inl b ↦ inl (subst (HoldsOfOne (IsThis key)) (sym keys_are) (some_right (IsThis key) road_keys (access_keys ++ relation_keys) (some_left (IsThis key) access_keys relation_keys (among_some key access_keys b))))
         | inr k ↦ elim k [
-          | inl c ↦ inl (subst (Some_of (IsThis key)) (sym keys_are) (some_right (IsThis key) road_keys (access_keys ++ relation_keys) (some_right (IsThis key) access_keys relation_keys (among_some key relation_keys c))))
+          | inl c ↦ inl (subst (HoldsOfOne (IsThis key)) (sym keys_are) (some_right (IsThis key) road_keys (access_keys ++ relation_keys) (some_right (IsThis key) access_keys relation_keys (among_some key relation_keys c))))
           | inr d ↦ inr (begins (codes "restriction:") key d)
         ]
       ]
@@ -129,7 +129,7 @@ unfolding is_kept
 is_kept_so key kept =
     or_one (is_among key road_keys) (is_among key access_keys) (is_among key relation_keys) (starts_with nat_eq key (codes "restriction:"))
     (elim kept [
-      | inl some ↦ elim (some_which (IsThis key) road_keys (access_keys ++ relation_keys) (subst (Some_of (IsThis key)) keys_are some)) [
+      | inl some ↦ elim (some_which (IsThis key) road_keys (access_keys ++ relation_keys) (subst (HoldsOfOne (IsThis key)) keys_are some)) [
         | inl a ↦ inl (some_among key road_keys a)
         | inr more ↦ elim (some_which (IsThis key) access_keys relation_keys more) [
           | inl b ↦ inr (inl (some_among key access_keys b))
@@ -144,14 +144,14 @@ not_kept key e kept = true_false (is_kept_so key kept) e
 
 -- ---- texts
 
-found_ok : (table : List (List ℕ)) (at index : ℕ) (text : List ℕ) → bytes_at table at index ≡ Ok text → IsText table index text
+found_ok : (table : List (List ℕ)) (at index : ℕ) (text : List ℕ) → bytes_at table at index ≡ Ok text → HasTextAt table index text
 found_ok table at index text e = by (slice_get table index) refl e
   where
     by : (o : Option (List ℕ)) → slice_get table index ≡ o → found at index o ≡ Ok text → slice_get table index ≡ Some text
     by None h e = absurd (ok_not_err text (faults.BadString at index) (sym e))
     by (Some bytes) h e = h ∙ ap (λ l. Some l) (ok_one bytes text e)
 
-found_is : (table : List (List ℕ)) (at index : ℕ) (text : List ℕ) → IsText table index text → bytes_at table at index ≡ Ok text
+found_is : (table : List (List ℕ)) (at index : ℕ) (text : List ℕ) → HasTextAt table index text → bytes_at table at index ≡ Ok text
 found_is table at index text e = ap (found at index) e
 
 found_bad : (table : List (List ℕ)) (at index : ℕ) (f : ObjectFault) → bytes_at table at index ≡ Err f → (f ≡ faults.BadString at index) × (slice_get table index ≡ None)
@@ -191,7 +191,7 @@ pub text_is : (table : List (List ℕ)) (at index : ℕ) (text : List ℕ) → I
 text_is table at index text is = then_is (bytes_at table at index) text (as_text at index) text (found_is table at index text is.found) (as_text_is at index text is.utf8)
 
 -- a text that has to be UTF-8 for a reason
-text_bad : (Needed : List ℕ → Type 0) (table : List (List ℕ)) (at index : ℕ) (f : ObjectFault) → ((text : List ℕ) → IsText table index text → Needed text) → text_at table at index ≡ Err f
+text_bad : (Needed : List ℕ → Type 0) (table : List (List ℕ)) (at index : ℕ) (f : ObjectFault) → ((text : List ℕ) → HasTextAt table index text → Needed text) → text_at table at index ≡ Err f
     → (f ≡ faults.BadString at index) × IsBadText Needed table index
 text_bad Needed table at index f needed e =
     elim (which_part (bytes_at table at index) (as_text at index) f e) [
@@ -212,7 +212,7 @@ none_some o x e f = impossible (sym e ∙ f)
     impossible h = cc
 
 -- a text that is there and is UTF-8 where it has to be isn't a bad one
-not_bad : (Needed : List ℕ → Type 0) (table : List (List ℕ)) (index : ℕ) (text : List ℕ) → IsText table index text → (Needed text → IsUtf8 text) → IsBadText Needed table index → ⊥
+not_bad : (Needed : List ℕ → Type 0) (table : List (List ℕ)) (index : ℕ) (text : List ℕ) → HasTextAt table index text → (Needed text → IsUtf8 text) → IsBadText Needed table index → ⊥
 not_bad Needed table index text there utf8 (inl none) = none_some (slice_get table index) text none there
 not_bad Needed table index text there utf8 (inr (other, is, needed, never)) =
     let same = some_one other text (sym is ∙ there) in
@@ -220,21 +220,21 @@ not_bad Needed table index text there utf8 (inr (other, is, needed, never)) =
 
 -- ---- names, one after the other
 
-abbrev pub NoneBad : List (List ℕ) → List Name → Type 0
-NoneBad table names = AllByRecursion (λ (name : Name). IsBadName table name → ⊥) names
+abbrev pub NoneBad : List (List ℕ) → List NamedText → Type 0
+NoneBad table names = AllByRecursion (λ (name : NamedText). IsBadName table name → ⊥) names
 
 -- the first bad name, and the fault that is its
-pub record FirstBad (table : List (List ℕ)) (at : ℕ) (names : List Name) (f : ObjectFault) : Type 0 where
-  pub before : List Name
-  pub name : Name
-  pub after : List Name
+pub record FirstBad (table : List (List ℕ)) (at : ℕ) (names : List NamedText) (f : ObjectFault) : Type 0 where
+  pub before : List NamedText
+  pub name : NamedText
+  pub after : List NamedText
   pub parts : names ≡ before ++ name ∷ after
   pub good : NoneBad table before
   pub bad : IsBadName table name
   pub fault_is : f ≡ faults.BadString at (index_of name)
 
 -- what reads these names, and gives a value or the fault of the first bad one
-pub record ReadsNames {A : Type 0} (table : List (List ℕ)) (at : ℕ) (names : List Name) (r : Result A ObjectFault) : Type 0 where
+pub record ReadsNames {A : Type 0} (table : List (List ℕ)) (at : ℕ) (names : List NamedText) (r : Result A ObjectFault) : Type 0 where
   pub good : (x : A) → r ≡ Ok x → NoneBad table names
   pub bad : (f : ObjectFault) → r ≡ Err f → FirstBad table at names f
 
@@ -242,12 +242,12 @@ all_append : {A : Type 0} (P : A → Type 0) (xs ys : List A) → AllByRecursion
 all_append P [] ys a b = b
 all_append P (x ∷ xs) ys a b = (a.0, all_append P xs ys a.1 b)
 
-pub reads_then : {A B : Type 0} (table : List (List ℕ)) (at : ℕ) (names others : List Name) (r : Result A ObjectFault) (f : A → Result B ObjectFault)
+pub reads_then : {A B : Type 0} (table : List (List ℕ)) (at : ℕ) (names others : List NamedText) (r : Result A ObjectFault) (f : A → Result B ObjectFault)
     → ReadsNames table at names r → ((x : A) → r ≡ Ok x → ReadsNames table at others (f x)) → ReadsNames table at (names ++ others) (r >>= f)
 reads_then table at names others r f one rest = record {
   good = λ y e.
       let p = both_parts r f y e in
-      all_append (λ (name : Name). IsBadName table name → ⊥) names others (one.good p.0 p.1) ((rest p.0 p.1).good y p.2);
+      all_append (λ (name : NamedText). IsBadName table name → ⊥) names others (one.good p.0 p.1) ((rest p.0 p.1).good y p.2);
   bad = λ d e. elim (which_part r f d e) [
     | inl h ↦
         (let b = one.bad d h in
@@ -267,7 +267,7 @@ reads_then table at names others r f one rest = record {
           name = b.name;
           after = b.after;
           parts = ap (λ l. names ++ l) b.parts ∙ sym (append_assoc names b.before (b.name ∷ b.after));
-          good = all_append (λ (name : Name). IsBadName table name → ⊥) names b.before (one.good h.0 h.1) b.good;
+          good = all_append (λ (name : NamedText). IsBadName table name → ⊥) names b.before (one.good h.0 h.1) b.good;
           bad = b.bad;
           fault_is = b.fault_is;
         })
@@ -278,7 +278,7 @@ pub reads_none : {A : Type 0} (table : List (List ℕ)) (at : ℕ) (x : A) → R
 reads_none table at x = record { good = λ y e. tt; bad = λ f e. absurd (ok_not_err x f e) }
 
 -- no names more behind these
-pub reads_end : {A B : Type 0} (table : List (List ℕ)) (at : ℕ) (names : List Name) (r : Result A ObjectFault) (g : A → B) → ReadsNames table at names r → ReadsNames table at names (r >>= λ x. Ok (g x))
+pub reads_end : {A B : Type 0} (table : List (List ℕ)) (at : ℕ) (names : List NamedText) (r : Result A ObjectFault) (g : A → B) → ReadsNames table at names r → ReadsNames table at names (r >>= λ x. Ok (g x))
 reads_end table at names r g one = record {
   good = λ y e. let p = both_parts r (λ x. Ok (g x)) y e in one.good p.0 p.1;
   bad = λ d e. elim (which_part r (λ x. Ok (g x)) d e) [
@@ -288,7 +288,7 @@ reads_end table at names r g one = record {
 }
 
 -- one name
-reads_one : {A : Type 0} (table : List (List ℕ)) (at : ℕ) (name : Name) (r : Result A ObjectFault)
+reads_one : {A : Type 0} (table : List (List ℕ)) (at : ℕ) (name : NamedText) (r : Result A ObjectFault)
     → ((x : A) → r ≡ Ok x → IsBadName table name → ⊥) → ((f : ObjectFault) → r ≡ Err f → (f ≡ faults.BadString at (index_of name)) × IsBadName table name) → ReadsNames table at (name ∷ []) r
 reads_one table at name r good bad = record {
   good = λ x e. (good x e, tt);
@@ -304,7 +304,7 @@ tag_way table at pair ts e =
     let k = both_parts (bytes_at table at pair.0) (λ key. Ok (is_kept key)) p.0 p.1 in
     by k.0 (found_ok table at pair.0 k.0 k.1) (is_kept k.0) refl (ap (λ b. cond b (kept_tag table at pair) (dropped_tag table at pair)) (ok_one (is_kept k.0) p.0 k.2) ∙ p.2)
   where
-    by : (key : List ℕ) → IsText table pair.0 key → (b : Bool) → is_kept key ≡ b → cond b (kept_tag table at pair) (dropped_tag table at pair) ≡ Ok ts → GivesTag table pair ts
+    by : (key : List ℕ) → HasTextAt table pair.0 key → (b : Bool) → is_kept key ≡ b → cond b (kept_tag table at pair) (dropped_tag table at pair) ≡ Ok ts → GivesTag table pair ts
     by key there true h e =
         let a = both_parts (text_at table at pair.0) (λ key. text_at table at pair.1 >>= λ value. Ok (record { key = key; value = value } ∷ [])) ts e in
         let v = both_parts (text_at table at pair.1) (λ value. Ok (record { key = a.0; value = value } ∷ [])) ts a.2 in
@@ -352,29 +352,29 @@ tag_is table at pair ts gives =
     ]
 
 -- the key, and then the value
-tag_reads : (table : List (List ℕ)) (at : ℕ) (pair : ℕ × ℕ) → ReadsNames table at (Key pair.0 ∷ Value pair.0 pair.1 ∷ []) (tag_of table at pair)
+tag_reads : (table : List (List ℕ)) (at : ℕ) (pair : ℕ × ℕ) → ReadsNames table at (KeyText pair.0 ∷ ValueText pair.0 pair.1 ∷ []) (tag_of table at pair)
 unfolding tag_of
 tag_reads table at pair = record { good = good_of; bad = bad_of }
   where
-    good_of : (ts : List Tag) → tag_of table at pair ≡ Ok ts → NoneBad table (Key pair.0 ∷ Value pair.0 pair.1 ∷ [])
+    good_of : (ts : List Tag) → tag_of table at pair ≡ Ok ts → NoneBad table (KeyText pair.0 ∷ ValueText pair.0 pair.1 ∷ [])
     good_of ts e =
         let g = tag_way table at pair ts e in
         elim g.is [
           | inl kept ↦
-              (not_bad IsKept table pair.0 g.key g.has_key (λ so. kept.1), (not_bad (λ (text : List ℕ). (k : List ℕ) × IsText table pair.0 k × IsKept k) table pair.1 g.value g.has_value (λ so. kept.2), tt))
+              (not_bad IsKept table pair.0 g.key g.has_key (λ so. kept.1), (not_bad (λ (text : List ℕ). (k : List ℕ) × HasTextAt table pair.0 k × IsKept k) table pair.1 g.value g.has_value (λ so. kept.2), tt))
           | inr dropped ↦ (
             not_bad IsKept table pair.0 g.key g.has_key (λ so. absurd (dropped.0 so)),
-            (not_bad (λ (text : List ℕ). (k : List ℕ) × IsText table pair.0 k × IsKept k) table pair.1 g.value g.has_value (λ so. absurd (dropped.0 (subst IsKept (some_one so.0 g.key (sym so.1 ∙ g.has_key)) so.2))), tt),
+            (not_bad (λ (text : List ℕ). (k : List ℕ) × HasTextAt table pair.0 k × IsKept k) table pair.1 g.value g.has_value (λ so. absurd (dropped.0 (subst IsKept (some_one so.0 g.key (sym so.1 ∙ g.has_key)) so.2))), tt),
           )
         ]
 
-    bad_key : (f : ObjectFault) → f ≡ faults.BadString at pair.0 → IsBadText IsKept table pair.0 → FirstBad table at (Key pair.0 ∷ Value pair.0 pair.1 ∷ []) f
-    bad_key f is bad = record { before = []; name = Key pair.0; after = Value pair.0 pair.1 ∷ []; parts = refl; good = tt; bad = bad; fault_is = is }
+    bad_key : (f : ObjectFault) → f ≡ faults.BadString at pair.0 → IsBadText IsKept table pair.0 → FirstBad table at (KeyText pair.0 ∷ ValueText pair.0 pair.1 ∷ []) f
+    bad_key f is bad = record { before = []; name = KeyText pair.0; after = ValueText pair.0 pair.1 ∷ []; parts = refl; good = tt; bad = bad; fault_is = is }
 
-    bad_value : (f : ObjectFault) → f ≡ faults.BadString at pair.1 → (IsBadText IsKept table pair.0 → ⊥) → IsBadName table (Value pair.0 pair.1) → FirstBad table at (Key pair.0 ∷ Value pair.0 pair.1 ∷ []) f
-    bad_value f is good bad = record { before = Key pair.0 ∷ []; name = Value pair.0 pair.1; after = []; parts = refl; good = (good, tt); bad = bad; fault_is = is }
+    bad_value : (f : ObjectFault) → f ≡ faults.BadString at pair.1 → (IsBadText IsKept table pair.0 → ⊥) → IsBadName table (ValueText pair.0 pair.1) → FirstBad table at (KeyText pair.0 ∷ ValueText pair.0 pair.1 ∷ []) f
+    bad_value f is good bad = record { before = KeyText pair.0 ∷ []; name = ValueText pair.0 pair.1; after = []; parts = refl; good = (good, tt); bad = bad; fault_is = is }
 
-    by : (f : ObjectFault) (key : List ℕ) → IsText table pair.0 key → (b : Bool) → is_kept key ≡ b → cond b (kept_tag table at pair) (dropped_tag table at pair) ≡ Err f → FirstBad table at (Key pair.0 ∷ Value pair.0 pair.1 ∷ []) f
+    by : (f : ObjectFault) (key : List ℕ) → HasTextAt table pair.0 key → (b : Bool) → is_kept key ≡ b → cond b (kept_tag table at pair) (dropped_tag table at pair) ≡ Err f → FirstBad table at (KeyText pair.0 ∷ ValueText pair.0 pair.1 ∷ []) f
     by f key there true h e =
         elim (which_part (text_at table at pair.0) (λ key. text_at table at pair.1 >>= λ value. Ok (record { key = key; value = value } ∷ [])) f e) [
           | inl bad ↦ (let b = text_bad IsKept table at pair.0 f (λ text is. subst IsKept (some_one key text (sym there ∙ is)) (kept_is key h)) bad in bad_key f b.0 b.1)
@@ -382,7 +382,7 @@ tag_reads table at pair = record { good = good_of; bad = bad_of }
               (let ka = text_ok table at pair.0 good.0 good.1 in
               elim (which_part (text_at table at pair.1) (λ value. Ok (record { key = good.0; value = value } ∷ [])) f good.2) [
                 | inl bad ↦
-                    (let b = text_bad (λ (text : List ℕ). (k : List ℕ) × IsText table pair.0 k × IsKept k) table at pair.1 f (λ text is. (key, there, kept_is key h)) bad in
+                    (let b = text_bad (λ (text : List ℕ). (k : List ℕ) × HasTextAt table pair.0 k × IsKept k) table at pair.1 f (λ text is. (key, there, kept_is key h)) bad in
                     bad_value f b.0 (not_bad IsKept table pair.0 good.0 ka.found (λ so. ka.utf8)) b.1)
                 | inr fine ↦ absurd (ok_not_err (record { key = good.0; value = fine.0 } ∷ []) f fine.2)
               ])
@@ -393,7 +393,7 @@ tag_reads table at pair = record { good = good_of; bad = bad_of }
           | inr fine ↦ absurd (ok_not_err [] f fine.2)
         ]
 
-    bad_of : (f : ObjectFault) → tag_of table at pair ≡ Err f → FirstBad table at (Key pair.0 ∷ Value pair.0 pair.1 ∷ []) f
+    bad_of : (f : ObjectFault) → tag_of table at pair ≡ Err f → FirstBad table at (KeyText pair.0 ∷ ValueText pair.0 pair.1 ∷ []) f
     bad_of f e =
         elim (which_part (keeps table at pair.0) (λ kept. cond kept (kept_tag table at pair) (dropped_tag table at pair)) f e) [
           | inl h ↦ elim (which_part (bytes_at table at pair.0) (λ key. Ok (is_kept key)) f h) [
@@ -421,14 +421,14 @@ tags_is table at (pair ∷ pairs) ts (one, more, gives, whole, rest) =
 pub tags_read : (table : List (List ℕ)) (at : ℕ) (pairs : List (ℕ × ℕ)) → ReadsNames table at (tag_names pairs) (tags_of table at pairs)
 tags_read table at [] = reads_none table at []
 tags_read table at (pair ∷ pairs) =
-    reads_then table at (Key pair.0 ∷ Value pair.0 pair.1 ∷ []) (tag_names pairs) (tag_of table at pair) (λ one. tags_of table at pairs >>= λ more. Ok (one ++ more)) (tag_reads table at pair)
+    reads_then table at (KeyText pair.0 ∷ ValueText pair.0 pair.1 ∷ []) (tag_names pairs) (tag_of table at pair) (λ one. tags_of table at pairs >>= λ more. Ok (one ++ more)) (tag_reads table at pair)
     (λ one e. reads_end table at (tag_names pairs) (tags_of table at pairs) (λ more. one ++ more) (tags_read table at pairs))
 
 -- ---- groups of tags
 
 names_behind : (xs ys : List (ℕ × ℕ)) → tag_names (xs ++ ys) ≡ tag_names xs ++ tag_names ys
 names_behind [] ys = refl
-names_behind (pair ∷ xs) ys = ap (λ l. Key pair.0 ∷ Value pair.0 pair.1 ∷ l) (names_behind xs ys)
+names_behind (pair ∷ xs) ys = ap (λ l. KeyText pair.0 ∷ ValueText pair.0 pair.1 ∷ l) (names_behind xs ys)
 
 pub groups_read : (table : List (List ℕ)) (at : ℕ) (groups : Groups) → ReadsNames table at (tag_names (pairs_in groups)) (each (tags_of table at) groups)
 groups_read table at [] = reads_none table at []
@@ -439,8 +439,8 @@ groups_read table at (group ∷ groups) =
 
 -- ---- roles
 
-pub role_read : (table : List (List ℕ)) (at index : ℕ) → ReadsNames table at (Role index ∷ []) (text_at table at index)
+pub role_read : (table : List (List ℕ)) (at index : ℕ) → ReadsNames table at (RoleText index ∷ []) (text_at table at index)
 role_read table at index =
-    reads_one table at (Role index) (text_at table at index)
+    reads_one table at (RoleText index) (text_at table at index)
     (λ text e. let is = text_ok table at index text e in not_bad (λ (text : List ℕ). Unit {0}) table index text is.found (λ so. is.utf8))
     (λ f e. text_bad (λ (text : List ℕ). Unit {0}) table at index f (λ text is. tt) e)

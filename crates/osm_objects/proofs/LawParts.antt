@@ -18,8 +18,6 @@ use Rattle.osm_objects.specs.Sums.{fits_i64, sums_from, sums_of}
 use Rattle.osm_objects.specs.Groups.{into_first, groups_in, exactly, groups_of}
 use Rattle.osm_objects.specs.Means.{held_by, IsLastOf, summed, sum_at, AreSums, ArePairs, written, HasKeys, AreWritten, AreGroups}
 use Rattle.osm_objects.specs.Causes.{HasBadSum}
-use Rattle.osm_objects.proofs.KeysValues.{exactly_is}
-use Rattle.osm_objects.proofs.SumsSoFar.{fits_is, not_fits}
 
 -- ---- results
 
@@ -202,6 +200,10 @@ fits_true : (z : ℤ) → fits_i64 z ≡ true → FitsSigned w64 z
 fits_true (pos n) e = record { sfits = omega (arith, ltb-true n (2 ^ 63) e) }
 fits_true (negsuc n) e = record { sfits = omega (arith, ltb-true n (2 ^ 63) e) }
 
+fits_is : (z : ℤ) → FitsSigned w64 z → fits_i64 z ≡ true
+fits_is (pos n) fits = lt-ltb n (2 ^ 63) (omega (arith, fits.sfits))
+fits_is (negsuc n) fits = lt-ltb n (2 ^ 63) (omega (arith, fits.sfits))
+
 fits_false : (z : ℤ) → fits_i64 z ≡ false → FitsSigned w64 z → ⊥
 fits_false z e fits = true_false (sym (fits_is z fits) ∙ e)
   where
@@ -305,6 +307,16 @@ sums_is at ns zs are =
 
 abbrev pub Groups : Type 0
 Groups = List (List (ℕ × ℕ))
+
+exactly_is : (at count : ℕ) (o : Option Groups) (groups : Groups) → exactly at count o ≡ Ok groups → (o ≡ Some groups) × (length groups ≡ count)
+exactly_is at count None groups e = absurd (ok_not_err groups (faults.Uneven at) (sym e))
+exactly_is at count (Some gs) groups e = by (eqb (length gs) count) refl e
+  where
+    by : (b : Bool) → eqb (length gs) count ≡ b → cond b (Ok gs) (Err (faults.Uneven at)) ≡ Ok groups → (Some gs ≡ Some groups) × (length groups ≡ count)
+    by true h e =
+        let them = ok_one gs groups e in
+        (ap (λ l. Some l) them, sym (ap (λ l. length l) them) ∙ eqb-true (length gs) count h)
+    by false h e = absurd (ok_not_err groups (faults.Uneven at) (sym e))
 
 groups_ok_in : (numbers : List ℕ) (groups : Groups) → groups_in numbers ≡ Some groups → AreWritten numbers groups
 groups_ok_in [] groups e = subst (AreWritten []) (inside e) (record { numbers_are = refl; have_keys = tt })

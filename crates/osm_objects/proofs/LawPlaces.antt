@@ -14,7 +14,7 @@ use Rattle.osm_objects.specs.Scales.{units_of, is_within}
 use Rattle.osm_objects.specs.Tags.{tags_of}
 use Rattle.osm_objects.specs.Coordinates.{placed, node_at}
 use Rattle.osm_objects.specs.Nodes.{nodes_at}
-use Rattle.osm_objects.specs.Means.{lat_nano, lon_nano, IsRoundedDown, IsOnEarth, IsPlaceAt, IsNodeAt, AreTags, Row, MeansRow}
+use Rattle.osm_objects.specs.Means.{lat_nano, lon_nano, IsRoundedDown, IsOnEarth, IsPlaceAt, IsNodeAt, AreTags, DenseRow, MeansRow}
 use Rattle.osm_objects.specs.Causes.{IsOffEarth}
 use Rattle.osm_objects.proofs.LawParts.{ok_one, err_one, ok_not_err, both_parts, which_part, then_is, Groups}
 use Rattle.osm_objects.proofs.LawNames.{tags_ok, tags_is}
@@ -113,32 +113,32 @@ node_so scale id lat lon node is = node_is scale id lat lon node.tags node is re
 
 -- ---- nodes of rows
 
-abbrev pub ids_of : List Row → List ℤ
-ids_of rows = map (λ (row : Row). row.id) rows
+abbrev pub ids_of : List DenseRow → List ℤ
+ids_of rows = map (λ (row : DenseRow). row.id) rows
 
-abbrev pub lats_of : List Row → List ℤ
-lats_of rows = map (λ (row : Row). row.lat) rows
+abbrev pub lats_of : List DenseRow → List ℤ
+lats_of rows = map (λ (row : DenseRow). row.lat) rows
 
-abbrev pub lons_of : List Row → List ℤ
-lons_of rows = map (λ (row : Row). row.lon) rows
+abbrev pub lons_of : List DenseRow → List ℤ
+lons_of rows = map (λ (row : DenseRow). row.lon) rows
 
-abbrev pub groups_of_rows : List Row → Groups
-groups_of_rows rows = map (λ (row : Row). row.group) rows
+abbrev pub groups_of_rows : List DenseRow → Groups
+groups_of_rows rows = map (λ (row : DenseRow). row.group) rows
 
-abbrev pub IsOff : Scale → Row → Type 0
+abbrev pub IsOff : Scale → DenseRow → Type 0
 IsOff scale row = IsOffEarth scale row.lat row.lon
 
-pub record FirstOff (scale : Scale) (rows : List Row) (f : ObjectFault) : Type 0 where
-  pub before : List Row
-  pub row : Row
-  pub after : List Row
+pub record FirstOff (scale : Scale) (rows : List DenseRow) (f : ObjectFault) : Type 0 where
+  pub before : List DenseRow
+  pub row : DenseRow
+  pub after : List DenseRow
   pub parts : rows ≡ before ++ row ∷ after
-  pub good : AllByRecursion (λ (row : Row). IsOff scale row → ⊥) before
+  pub good : AllByRecursion (λ (row : DenseRow). IsOff scale row → ⊥) before
   pub bad : IsOff scale row
   pub fault_is : f ≡ faults.BadCoordinate row.id
 
-pub rows_ok : (table : List (List ℕ)) (scale : Scale) (at : ℕ) (rows : List Row) (tag_lists : List (List Tag)) (nodes : List OsmNode) → each (tags_of table at) (groups_of_rows rows) ≡ Ok tag_lists
-    → nodes_at scale (ids_of rows) (lats_of rows) (lons_of rows) tag_lists ≡ Ok nodes → AllZip (MeansRow table scale) rows nodes × AllByRecursion (λ (row : Row). IsOff scale row → ⊥) rows
+pub rows_ok : (table : List (List ℕ)) (scale : Scale) (at : ℕ) (rows : List DenseRow) (tag_lists : List (List Tag)) (nodes : List OsmNode) → each (tags_of table at) (groups_of_rows rows) ≡ Ok tag_lists
+    → nodes_at scale (ids_of rows) (lats_of rows) (lons_of rows) tag_lists ≡ Ok nodes → AllZip (MeansRow table scale) rows nodes × AllByRecursion (λ (row : DenseRow). IsOff scale row → ⊥) rows
 rows_ok table scale at [] tag_lists nodes t e = (subst (AllZip (MeansRow table scale) []) (ok_one [] nodes e) tt, tt)
 rows_ok table scale at (row ∷ rows) [] nodes t e =
     let a = both_parts (tags_of table at row.group) (λ y. each (tags_of table at) (groups_of_rows rows) >>= λ ys. Ok (y ∷ ys)) [] t in
@@ -160,7 +160,7 @@ rows_ok table scale at (row ∷ rows) (tags ∷ tag_lists) nodes t e =
     split : (x y : List Tag) (xs ys : List (List Tag)) → x ∷ xs ≡ y ∷ ys → (x ≡ y) × (xs ≡ ys)
     split x y xs ys h = (cc, cc)
 
-pub rows_bad : (table : List (List ℕ)) (scale : Scale) (at : ℕ) (rows : List Row) (tag_lists : List (List Tag)) (f : ObjectFault) → each (tags_of table at) (groups_of_rows rows) ≡ Ok tag_lists
+pub rows_bad : (table : List (List ℕ)) (scale : Scale) (at : ℕ) (rows : List DenseRow) (tag_lists : List (List Tag)) (f : ObjectFault) → each (tags_of table at) (groups_of_rows rows) ≡ Ok tag_lists
     → nodes_at scale (ids_of rows) (lats_of rows) (lons_of rows) tag_lists ≡ Err f → FirstOff scale rows f
 rows_bad table scale at [] tag_lists f t e = absurd (ok_not_err [] f e)
 rows_bad table scale at (row ∷ rows) [] f t e = absurd (ok_not_err [] f e)
@@ -191,7 +191,7 @@ rows_bad table scale at (row ∷ rows) (tags ∷ tag_lists) f t e =
     split x y xs ys h = cc
 
 -- the rows' nodes, by their tags
-pub rows_is : (table : List (List ℕ)) (scale : Scale) (at : ℕ) (rows : List Row) (nodes : List OsmNode) → AllZip (MeansRow table scale) rows nodes
+pub rows_is : (table : List (List ℕ)) (scale : Scale) (at : ℕ) (rows : List DenseRow) (nodes : List OsmNode) → AllZip (MeansRow table scale) rows nodes
     → (each (tags_of table at) (groups_of_rows rows) ≡ Ok (map (λ (node : OsmNode). node.tags) nodes)) × (nodes_at scale (ids_of rows) (lats_of rows) (lons_of rows) (map (λ (node : OsmNode). node.tags) nodes) ≡ Ok nodes)
 rows_is table scale at [] [] zip = (refl, refl)
 rows_is table scale at [] (node ∷ nodes) zip = absurd zip

@@ -19,11 +19,11 @@ sums_left at sums last ns i = after sums (sums_from at last (drop i ns))
 pub sums-begun : (at : ℕ) (ns : List ℕ) → sums_of at ns ≡ sums_left at [] (pos 0) ns 0
 sums-begun at ns = sym (after_nil (sums_from at (pos 0) ns))
 
-pub fits_is : (z : ℤ) → FitsSigned w64 z → fits_i64 z ≡ true
+fits_is : (z : ℤ) → FitsSigned w64 z → fits_i64 z ≡ true
 fits_is (pos n) fits = lt-ltb n (2 ^ 63) (omega (arith, fits.sfits))
 fits_is (negsuc n) fits = lt-ltb n (2 ^ 63) (omega (arith, fits.sfits))
 
-pub not_fits : (z : ℤ) → (FitsSigned w64 z → ⊥) → fits_i64 z ≡ false
+not_fits : (z : ℤ) → (FitsSigned w64 z → ⊥) → fits_i64 z ≡ false
 not_fits (pos n) never = elim (cases_Bool (ltb n (2 ^ 63))) [ inl e ↦ absurd (never (record { sfits = omega (arith, ltb-true n (2 ^ 63) e) })) | inr e ↦ e ]
 not_fits (negsuc n) never = elim (cases_Bool (ltb n (2 ^ 63))) [ inl e ↦ absurd (never (record { sfits = omega (arith, ltb-true n (2 ^ 63) e) })) | inr e ↦ e ]
 

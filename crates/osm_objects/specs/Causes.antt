@@ -14,7 +14,7 @@ use Rattle.osm_objects.specs.declared.fault.ObjectFault.{ObjectFault}
 use Rattle.osm_objects.specs.declared.fault.ObjectFault.TheVariants as faults
 use Rattle.osm_objects.specs.declared.scale.Scale.{Scale}
 use Rattle.osm_objects.specs.Objects.{Objects}
-use Rattle.osm_objects.specs.Means.{Held, held_by, IsLastOf, Some_of, sum_at, IsText, IsKept, ArePairs, AreGroups, IsPlaceAt, IsOnEarth, lat_nano, lon_nano, GivesObjects, units_in}
+use Rattle.osm_objects.specs.Means.{HeldNumbers, held_by, IsLastOf, HoldsOfOne, sum_at, HasTextAt, IsKept, ArePairs, AreGroups, IsPlaceAt, IsOnEarth, lat_nano, lon_nano, GivesObjects, units_in}
 
 -- ---- causes and their ranks
 
@@ -61,16 +61,16 @@ IsNeeded kinds.Relation number = number ≡ 1
 -- ---- lists that belong together
 
 -- the lists of these two fields
-abbrev pub Differ : Held → ℕ → ℕ → Type 0
+abbrev pub Differ : HeldNumbers → ℕ → ℕ → Type 0
 Differ held one other = length (held one) ≢ length (held other)
 
 -- keys and values; ids, latitudes, longitudes and groups; roles, ids and types of members, of which 2 is the greatest
-abbrev pub IsUneven : ObjectKind → Held → Type 0
+abbrev pub IsUneven : ObjectKind → HeldNumbers → Type 0
 IsUneven kinds.Node held = Differ held 2 3
 IsUneven kinds.Dense held =
     Differ held 1 8 ⊎ (Differ held 1 9 ⊎ ((groups : List (List (ℕ × ℕ))) → AreGroups (held 10) groups → length groups ≢ length (held 1)))
 IsUneven kinds.Way held = Differ held 2 3
-IsUneven kinds.Relation held = Differ held 2 3 ⊎ (Differ held 8 9 ⊎ (Differ held 8 10 ⊎ Some_of (λ (type : ℕ). 2 < type) (held 10)))
+IsUneven kinds.Relation held = Differ held 2 3 ⊎ (Differ held 8 9 ⊎ (Differ held 8 10 ⊎ HoldsOfOne (λ (type : ℕ). 2 < type) (held 10)))
 
 -- ---- sums
 
@@ -78,7 +78,7 @@ IsUneven kinds.Relation held = Differ held 2 3 ⊎ (Differ held 8 9 ⊎ (Differ 
 abbrev pub HasBadSum : List ℕ → Type 0
 HasBadSum differences = (i : ℕ) × (i < length differences) × (FitsSigned w64 (sum_at i differences) → ⊥)
 
-abbrev pub IsBadNumber : ObjectKind → Held → Type 0
+abbrev pub IsBadNumber : ObjectKind → HeldNumbers → Type 0
 IsBadNumber kinds.Node held = ⊥
 IsBadNumber kinds.Dense held = HasBadSum (held 1) ⊎ (HasBadSum (held 8) ⊎ HasBadSum (held 9))
 IsBadNumber kinds.Way held = HasBadSum (held 8)
@@ -87,40 +87,40 @@ IsBadNumber kinds.Relation held = HasBadSum (held 9)
 -- ---- texts
 
 -- what an object names by an index: a key; the value of a key; a role
-pub data Name : Type 0 where
-  Key : ℕ → Name
-  Value : ℕ → ℕ → Name
-  Role : ℕ → Name
+pub data NamedText : Type 0 where
+  KeyText : ℕ → NamedText
+  ValueText : ℕ → ℕ → NamedText
+  RoleText : ℕ → NamedText
 
-abbrev pub index_of : Name → ℕ
-index_of (Key index) = index
-index_of (Value key index) = index
-index_of (Role index) = index
+abbrev pub index_of : NamedText → ℕ
+index_of (KeyText index) = index
+index_of (ValueText key index) = index
+index_of (RoleText index) = index
 
 -- the text isn't in the table, or it is and isn't UTF-8 where it has to be
 abbrev pub IsBadText : (List ℕ → Type 0) → List (List ℕ) → ℕ → Type 0
 IsBadText IsNeededIn table index =
-    (slice_get table index ≡ None) ⊎ ((text : List ℕ) × IsText table index text × IsNeededIn text × (IsUtf8 text → ⊥))
+    (slice_get table index ≡ None) ⊎ ((text : List ℕ) × HasTextAt table index text × IsNeededIn text × (IsUtf8 text → ⊥))
 
 -- a kept key and its value have to be UTF-8, and so has a role
-abbrev pub IsBadName : List (List ℕ) → Name → Type 0
-IsBadName table (Key index) = IsBadText IsKept table index
-IsBadName table (Value key index) = IsBadText (λ (text : List ℕ). (kept : List ℕ) × IsText table key kept × IsKept kept) table index
-IsBadName table (Role index) = IsBadText (λ (text : List ℕ). Unit {0}) table index
+abbrev pub IsBadName : List (List ℕ) → NamedText → Type 0
+IsBadName table (KeyText index) = IsBadText IsKept table index
+IsBadName table (ValueText key index) = IsBadText (λ (text : List ℕ). (kept : List ℕ) × HasTextAt table key kept × IsKept kept) table index
+IsBadName table (RoleText index) = IsBadText (λ (text : List ℕ). Unit {0}) table index
 
 -- the names of tags, tag by tag, each key before its value; and those of roles
-abbrev pub tag_names : List (ℕ × ℕ) → List Name
-tag_names pairs = flat_map (λ (pair : ℕ × ℕ). Key pair.0 ∷ Value pair.0 pair.1 ∷ []) pairs
+abbrev pub tag_names : List (ℕ × ℕ) → List NamedText
+tag_names pairs = flat_map (λ (pair : ℕ × ℕ). KeyText pair.0 ∷ ValueText pair.0 pair.1 ∷ []) pairs
 
-abbrev pub role_names : List ℕ → List Name
-role_names roles = map (λ (index : ℕ). Role index) roles
+abbrev pub role_names : List ℕ → List NamedText
+role_names roles = map (λ (index : ℕ). RoleText index) roles
 
 -- all pairs of groups
 abbrev pub pairs_in : List (List (ℕ × ℕ)) → List (ℕ × ℕ)
 pairs_in groups = flat_map (λ (group : List (ℕ × ℕ)). group) groups
 
 -- what an object names, in order: the roles of a relation stand behind its tags
-abbrev pub AreNames : ObjectKind → Held → List Name → Type 0
+abbrev pub AreNames : ObjectKind → HeldNumbers → List NamedText → Type 0
 AreNames kinds.Node held names = (pairs : List (ℕ × ℕ)) × ArePairs (held 2) (held 3) pairs × (names ≡ tag_names pairs)
 AreNames kinds.Dense held names =
     (groups : List (List (ℕ × ℕ))) × AreGroups (held 10) groups × (length groups ≡ length (held 1)) × (names ≡ tag_names (pairs_in groups))
@@ -129,10 +129,10 @@ AreNames kinds.Relation held names =
     (pairs : List (ℕ × ℕ)) × ArePairs (held 2) (held 3) pairs × (names ≡ tag_names pairs ++ role_names (held 8))
 
 -- the name with this place has this index, and its text is a bad one
-pub record HasBadName (table : List (List ℕ)) (kind : ObjectKind) (held : Held) (place index : ℕ) : Type 0 where
-  pub names : List Name
+pub record HasBadName (table : List (List ℕ)) (kind : ObjectKind) (held : HeldNumbers) (place index : ℕ) : Type 0 where
+  pub names : List NamedText
   pub are_names : AreNames kind held names
-  pub name : Name
+  pub name : NamedText
   pub stands : slice_get names place ≡ Some name
   pub index_is : index ≡ index_of name
   pub bad : IsBadName table name
@@ -144,7 +144,7 @@ abbrev pub IsOffEarth : Scale → ℤ → ℤ → Type 0
 IsOffEarth scale lat lon = (units_lat units_lon : ℤ) × IsPlaceAt (lat_nano scale lat) (lon_nano scale lon) units_lat units_lon × (IsOnEarth units_lat units_lon → ⊥)
 
 -- the node of a node's fields
-pub record IsOneOff (scale : Scale) (held : Held) (place : ℕ) (id : ℤ) : Type 0 where
+pub record IsOneOff (scale : Scale) (held : HeldNumbers) (place : ℕ) (id : ℤ) : Type 0 where
   pub first : place ≡ 0
   pub number : ℕ
   pub lat : ℕ
@@ -156,12 +156,12 @@ pub record IsOneOff (scale : Scale) (held : Held) (place : ℕ) (id : ℤ) : Typ
   pub off : IsOffEarth scale (unzigzag_of lat) (unzigzag_of lon)
 
 -- the node with this place in a dense message
-pub record IsRowOff (scale : Scale) (held : Held) (place : ℕ) (id : ℤ) : Type 0 where
+pub record IsRowOff (scale : Scale) (held : HeldNumbers) (place : ℕ) (id : ℤ) : Type 0 where
   pub within : place < length (held 1)
   pub id_is : id ≡ sum_at place (held 1)
   pub off : IsOffEarth scale (sum_at place (held 8)) (sum_at place (held 9))
 
-abbrev pub IsMisplaced : ObjectKind → Scale → Held → ℕ → ℤ → Type 0
+abbrev pub IsMisplaced : ObjectKind → Scale → HeldNumbers → ℕ → ℤ → Type 0
 IsMisplaced kinds.Node scale held place id = IsOneOff scale held place id
 IsMisplaced kinds.Dense scale held place id = IsRowOff scale held place id
 IsMisplaced kinds.Way scale held place id = ⊥
@@ -170,7 +170,7 @@ IsMisplaced kinds.Relation scale held place id = ⊥
 -- ---- the first of them
 
 -- the cause stands in the object with these numbers
-abbrev pub IsCauseIn : List (List ℕ) → Scale → ObjectKind → Held → ObjectCause → Type 0
+abbrev pub IsCauseIn : List (List ℕ) → Scale → ObjectKind → HeldNumbers → ObjectCause → Type 0
 IsCauseIn table scale kind held (Lacks number) = IsNeeded kind number × (held number ≡ [])
 IsCauseIn table scale kind held IsOdd = IsUneven kind held
 IsCauseIn table scale kind held IsPast = IsBadNumber kind held
@@ -178,7 +178,7 @@ IsCauseIn table scale kind held (NoText place index) = HasBadName table kind hel
 IsCauseIn table scale kind held (NoPlace place id) = IsMisplaced kind scale held place id
 
 -- the fault is that of a cause that stands there, and no other that stands there comes before it
-pub record IsFirstCause (table : List (List ℕ)) (scale : Scale) (kind : ObjectKind) (held : Held) (at : ℕ) (fault : ObjectFault) : Type 0 where
+pub record IsFirstCause (table : List (List ℕ)) (scale : Scale) (kind : ObjectKind) (held : HeldNumbers) (at : ℕ) (fault : ObjectFault) : Type 0 where
   pub cause : ObjectCause
   pub stands : IsCauseIn table scale kind held cause
   pub fault_is : fault ≡ fault_of at cause

@@ -24,10 +24,10 @@ use Rattle.osm_objects.specs.Objects.{Objects, no_objects, just_nodes, just_ways
 -- ---- the numbers of fields
 
 -- the numbers of each field of an object, in the order of the bytes
-abbrev pub Held : Type 0
-Held = ℕ → List ℕ
+abbrev pub HeldNumbers : Type 0
+HeldNumbers = ℕ → List ℕ
 
-abbrev pub held_by : List (ℕ × ℕ) → Held
+abbrev pub held_by : List (ℕ × ℕ) → HeldNumbers
 held_by numbers field = map (λ (pair : ℕ × ℕ). pair.1) (filter (λ (pair : ℕ × ℕ). pair.0 == field) numbers)
 
 -- the last number of a field, which is the one that counts
@@ -35,9 +35,9 @@ abbrev pub IsLastOf : List ℕ → ℕ → Type 0
 IsLastOf numbers n = (front : List ℕ) × (numbers ≡ front ++ n ∷ [])
 
 -- something holds of one of the list
-abbrev pub Some_of : {A : Type 0} → (A → Type 0) → List A → Type 0
-Some_of P [] = ⊥
-Some_of P (x ∷ xs) = P x ⊎ Some_of P xs
+abbrev pub HoldsOfOne : {A : Type 0} → (A → Type 0) → List A → Type 0
+HoldsOfOne P [] = ⊥
+HoldsOfOne P (x ∷ xs) = P x ⊎ HoldsOfOne P xs
 
 -- ---- differences
 
@@ -59,12 +59,12 @@ pub record AreSums (differences : List ℕ) (sums : List ℤ) : Type 0 where
 -- ---- texts
 
 -- the string table has this text at this index
-abbrev pub IsText : List (List ℕ) → ℕ → List ℕ → Type 0
-IsText table index text = slice_get table index ≡ Some text
+abbrev pub HasTextAt : List (List ℕ) → ℕ → List ℕ → Type 0
+HasTextAt table index text = slice_get table index ≡ Some text
 
 -- the text at this index, which is UTF-8
 pub record IsUtf8Text (table : List (List ℕ)) (index : ℕ) (text : List ℕ) : Type 0 where
-  pub found : IsText table index text
+  pub found : HasTextAt table index text
   pub utf8 : IsUtf8 text
 
 -- ---- tags
@@ -78,7 +78,7 @@ kept_keys =
 
 -- one of these keys, or one that begins with `restriction:`
 abbrev pub IsKept : List ℕ → Type 0
-IsKept key = Some_of (λ (kept : List ℕ). key ≡ kept) kept_keys ⊎ ((rest : List ℕ) × (key ≡ codes "restriction:" ++ rest))
+IsKept key = HoldsOfOne (λ (kept : List ℕ). key ≡ kept) kept_keys ⊎ ((rest : List ℕ) × (key ≡ codes "restriction:" ++ rest))
 
 -- a tag with a kept key is kept, and is UTF-8; another is dropped
 abbrev pub IsTagOf : List ℕ → List ℕ → List Tag → Type 0
@@ -90,8 +90,8 @@ IsTagOf key value given =
 pub record GivesTag (table : List (List ℕ)) (pair : ℕ × ℕ) (given : List Tag) : Type 0 where
   pub key : List ℕ
   pub value : List ℕ
-  pub has_key : IsText table pair.0 key
-  pub has_value : IsText table pair.1 value
+  pub has_key : HasTextAt table pair.0 key
+  pub has_value : HasTextAt table pair.1 value
   pub is : IsTagOf key value given
 
 -- the kept tags of these pairs, in order
@@ -157,7 +157,7 @@ pub record IsNodeAt (scale : Scale) (id lat lon : ℤ) (node : OsmNode) : Type 0
 -- ---- objects
 
 -- a node: id 1, keys 2, values 3, latitude 8, longitude 9
-pub record MeansNode (table : List (List ℕ)) (scale : Scale) (held : Held) (node : OsmNode) : Type 0 where
+pub record MeansNode (table : List (List ℕ)) (scale : Scale) (held : HeldNumbers) (node : OsmNode) : Type 0 where
   pub id : ℕ
   pub lat : ℕ
   pub lon : ℕ
@@ -170,27 +170,27 @@ pub record MeansNode (table : List (List ℕ)) (scale : Scale) (held : Held) (no
   pub is : IsNodeAt scale (unzigzag_of id) (unzigzag_of lat) (unzigzag_of lon) node
 
 -- one node of a dense message
-pub record Row : Type 0 where
+pub record DenseRow : Type 0 where
   pub id : ℤ
   pub lat : ℤ
   pub lon : ℤ
   pub group : List (ℕ × ℕ)
 
-pub record MeansRow (table : List (List ℕ)) (scale : Scale) (row : Row) (node : OsmNode) : Type 0 where
+pub record MeansRow (table : List (List ℕ)) (scale : Scale) (row : DenseRow) (node : OsmNode) : Type 0 where
   pub tags : AreTags table row.group node.tags
   pub is : IsNodeAt scale row.id row.lat row.lon node
 
 -- a dense message: ids 1, latitudes 8, longitudes 9, keys and values 10
-pub record MeansDense (table : List (List ℕ)) (scale : Scale) (held : Held) (nodes : List OsmNode) : Type 0 where
-  pub rows : List Row
-  pub ids : AreSums (held 1) (map (λ (row : Row). row.id) rows)
-  pub lats : AreSums (held 8) (map (λ (row : Row). row.lat) rows)
-  pub lons : AreSums (held 9) (map (λ (row : Row). row.lon) rows)
-  pub groups : AreGroups (held 10) (map (λ (row : Row). row.group) rows)
+pub record MeansDense (table : List (List ℕ)) (scale : Scale) (held : HeldNumbers) (nodes : List OsmNode) : Type 0 where
+  pub rows : List DenseRow
+  pub ids : AreSums (held 1) (map (λ (row : DenseRow). row.id) rows)
+  pub lats : AreSums (held 8) (map (λ (row : DenseRow). row.lat) rows)
+  pub lons : AreSums (held 9) (map (λ (row : DenseRow). row.lon) rows)
+  pub groups : AreGroups (held 10) (map (λ (row : DenseRow). row.group) rows)
   pub gives : AllZip (MeansRow table scale) rows nodes
 
 -- a way: id 1, in two's complement; keys 2, values 3, refs 8
-pub record MeansWay (table : List (List ℕ)) (held : Held) (way : OsmWay) : Type 0 where
+pub record MeansWay (table : List (List ℕ)) (held : HeldNumbers) (way : OsmWay) : Type 0 where
   pub id : ℕ
   pub pairs : List (ℕ × ℕ)
   pub has_id : IsLastOf (held 1) id
@@ -206,7 +206,7 @@ type_of members.Way = 1
 type_of members.Relation = 2
 
 -- a relation: id 1, in two's complement; keys 2, values 3; roles 8, ids 9 and types 10 of its members
-pub record MeansRelation (table : List (List ℕ)) (held : Held) (relation : OsmRelation) : Type 0 where
+pub record MeansRelation (table : List (List ℕ)) (held : HeldNumbers) (relation : OsmRelation) : Type 0 where
   pub id : ℕ
   pub pairs : List (ℕ × ℕ)
   pub has_id : IsLastOf (held 1) id
@@ -218,7 +218,7 @@ pub record MeansRelation (table : List (List ℕ)) (held : Held) (relation : Osm
   pub types : held 10 ≡ map (λ (member : Member). type_of member.kind) relation.members
 
 -- what the numbers of an object mean
-abbrev pub MeansObject : ObjectKind → List (List ℕ) → Scale → Held → Objects → Type 0
+abbrev pub MeansObject : ObjectKind → List (List ℕ) → Scale → HeldNumbers → Objects → Type 0
 MeansObject kinds.Node table scale held given = (node : OsmNode) × MeansNode table scale held node × (given ≡ just_nodes (node ∷ []))
 MeansObject kinds.Dense table scale held given = (nodes : List OsmNode) × MeansDense table scale held nodes × (given ≡ just_nodes nodes)
 MeansObject kinds.Way table scale held given = (way : OsmWay) × MeansWay table held way × (given ≡ just_ways (way ∷ []))

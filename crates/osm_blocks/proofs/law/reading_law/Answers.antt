@@ -1,7 +1,8 @@
 use Rattle.osm_blocks.proofs.Readings.{is_read, one_way}
 use Rattle.osm_blocks.proofs.Whole.{is_extract}
 use Rattle.osm_blocks.proofs.OfBytes.{refusal_of_bytes}
-use Rattle.osm_blocks.proofs.Limits.{are_within, none_past}
+use Rattle.osm_blocks.proofs.Limits.{are_within}
+use Rattle.osm_blocks.proofs.WithinLimits.{none_past}
 use Rattle.osm_blocks.proofs.law.reading_law.Goals as goal
 
 pub returns-clause-read : goal.returns-clause-read
