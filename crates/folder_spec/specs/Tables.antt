@@ -40,12 +40,14 @@ pub record RowTable : Type 0 where
   pub sequences : List (List DirectedPiece × ℕ)
   pub mask : DirectedPiece → ℕ
 
+-- what a look-up gives that finds nothing
 abbrev pub no_node : NodeRow
 no_node = record { osm = pos 0; links = []; levels = [] }
 
 abbrev pub no_tile : TileRows
 no_tile = record { level = 0; tile = 0; nodes = [] }
 
+-- equal lists of pieces, and equal links
 abbrev pub same_list : List DirectedPiece → List DirectedPiece → Bool
 same_list [] [] = true
 same_list [] (q ∷ qs) = false
@@ -139,6 +141,6 @@ pub record IsExtractTable (x : Extract) (asked : ℕ) (numbers : FormatNumbers) 
   pub mask_is : (l : Link DirectedPiece) → AreLinked x asked numbers l.first l.more → (i : ℕ) → IsBitSet (t.mask (last_edge l)) i ↔ IsMaskBit x numbers (last_edge l) i
   pub tiles_low : (n : ℤ) (level : ℕ) → HasNode x asked n level → tile_of level n < tile_limit
 
--- The law of tables: for the graph of the extract's table, a road walk exactly where a tile walk
+-- The law of tables: for the graph of the extract's table, a road walk exists exactly where a tile walk does.
 abbrev pub SameTableWalks : Type 0
 SameTableWalks = (x : Extract) (asked : ℕ) (numbers : FormatNumbers) (tile_of : ℕ → ℤ → ℕ) (t : RowTable) → IsExtractTable x asked numbers tile_of t → (mode : ℕ) → ShareMode numbers.all mode → (a b : ℤ) (total : ℕ) → RoadWalk x asked mode a b total ↔ TileWalk (graph_of x t tile_of) numbers.vehicles mode a b total
