@@ -11,7 +11,7 @@ use Rattle.road_walks.specs.BaseEdges.{FormatNumbers, IsKeptPiece}
 use Rattle.folder_spec.specs.FolderWalks.{from_node, link_level}
 use Rattle.tile_graph.specs.Graphs.{GraphSequence}
 use Rattle.road_pieces.specs.Among.{Among, Once}
-use Rattle.folder_spec.specs.Tables.{first_index, NodeRow, TileRows, RowTable, same_link, is_node, tile_at, node_row_at, links_of, node_graph_id, link_graph_id, edge_row, node_row, sequence_row, graph_of, IsRowOf, IsExtractTable}
+use Rattle.folder_spec.specs.Tables.{first_index, NodeRow, TileRows, RowTable, same_link, is_node, tile_rows_at, node_row_at, links_of, node_graph_id, link_graph_id, edge_row, node_row, sequence_row, graph_of, IsRowOf, IsExtractTable}
 use Rattle.graph_id.specs.GraphId.{value_of}
 use Rattle.std.specs.Prelude.{filter}
 use Rattle.std.proofs.lemmas.Bool.{eq-eqb}
@@ -76,8 +76,8 @@ module _ (x : Extract) (asked : ℕ) (numbers : FormatNumbers) (tile_of : ℕ �
         let (exists, (from, level)) = (table.links_are rows r there among l).0 inside in
         let tile : tile_of (link_level x l) (from_node x l) ≡ rows.tile =
         (λ i. tile_of (level i) (from i)) ∙ sym (ordered.tile_is rows r there among) in
-        let first : link_graph_id x t tile_of l ≡ value_of rows.level rows.tile (first_index (same_link l) (links_of (tile_at t rows.level rows.tile))) =
-        λ i. value_of (level i) (tile i) (first_index (same_link l) (links_of (tile_at t (level i) (tile i)))) in
+        let first : link_graph_id x t tile_of l ≡ value_of rows.level rows.tile (first_index (same_link l) (links_of (tile_rows_at t rows.level rows.tile))) =
+        λ i. value_of (level i) (tile i) (first_index (same_link l) (links_of (tile_rows_at t (level i) (tile i)))) in
         let once : Once (before ++ l ∷ after) = subst Once is (ordered.links_once rows there) in
         first
         ∙ (ap (λ rs. value_of rows.level rows.tile (first_index (same_link l) (links_of rs))) (tile_is x asked numbers tile_of t table rows there)
@@ -87,8 +87,8 @@ module _ (x : Extract) (asked : ℕ) (numbers : FormatNumbers) (tile_of : ℕ �
     node_id_is : (before after : List NodeRow) (r : NodeRow) → rows.nodes ≡ before ++ r ∷ after → Among rows.nodes r → node_graph_id t tile_of r.osm rows.level ≡ value_of rows.level rows.tile (length before)
     node_id_is before after r is among =
         let tile : tile_of rows.level r.osm ≡ rows.tile = sym (ordered.tile_is rows r there among) in
-        let first : node_graph_id t tile_of r.osm rows.level ≡ value_of rows.level rows.tile (first_index (is_node r.osm) (tile_at t rows.level rows.tile).nodes) =
-        λ i. value_of rows.level (tile i) (first_index (is_node r.osm) (tile_at t rows.level (tile i)).nodes) in
+        let first : node_graph_id t tile_of r.osm rows.level ≡ value_of rows.level rows.tile (first_index (is_node r.osm) (tile_rows_at t rows.level rows.tile).nodes) =
+        λ i. value_of rows.level (tile i) (first_index (is_node r.osm) (tile_rows_at t rows.level (tile i)).nodes) in
         let once : Once (map (λ s. s.osm) before ++ r.osm ∷ map (λ s. s.osm) after) =
         subst Once (ap (map (λ s. s.osm)) is ∙ map-append (λ s. s.osm) before (r ∷ after)) (ordered.nodes_once rows there) in
         first

@@ -20,3 +20,4 @@ pub mod Headline
 pub mod OneFolder
 pub mod WorkedRows
 pub mod WorkedTurns
+pub mod WorkedVector

@@ -15,7 +15,7 @@ use Rattle.folder_spec.specs.FolderWalks.{AreLinked, from_node, link_level}
 use Rattle.tile_graph.specs.Graphs.{GraphEdge, GraphNode, GraphSequence, Graph}
 use Rattle.folder_spec.specs.Renders.{Renders}
 use Rattle.road_pieces.specs.Among.{Among}
-use Rattle.folder_spec.specs.Tables.{first_index, NodeRow, TileRows, RowTable, no_node, no_tile, same_list, same_link, is_tile, is_node, tile_at, node_row_at, links_of, node_graph_id, link_graph_id, edge_row, node_row, sequence_row, graph_of, IsRowOf, IsExtractTable}
+use Rattle.folder_spec.specs.Tables.{first_index, NodeRow, TileRows, RowTable, no_node, no_tile, same_list, same_link, is_tile, is_node, tile_rows_at, node_row_at, links_of, node_graph_id, link_graph_id, edge_row, node_row, sequence_row, graph_of, IsRowOf, IsExtractTable}
 use Rattle.graph_id.specs.GraphId.{value_of}
 use Rattle.road_walks.proofs.Locals.{same_itself, same_only, and_both}
 use Rattle.folder_spec.proofs.WalksAgree.{node_from}
@@ -76,16 +76,16 @@ module _ (x : Extract) (asked : ℕ) (numbers : FormatNumbers) (tile_of : ℕ �
   Row n level = IsRowOf t tile_of n level
 
   abbrev tile_by : ℤ → ℕ → TileRows
-  tile_by n level = tile_at t level (tile_of level n)
+  tile_by n level = tile_rows_at t level (tile_of level n)
 
   pub level_low : (n : ℤ) (level : ℕ) → HasNode x asked n level → level < 8
   level_low n level has =
       subst (λ k. k < 8) has.is.level_is (low (nat_le (class_of (Rattle.road_pieces.specs.Rules.way_tags x has.piece.way)) 2) (nat_le (class_of (Rattle.road_pieces.specs.Rules.way_tags x has.piece.way)) 4))
 
   -- what is looked up is there
-  pub tile_is : (rows : TileRows) → Among t.tiles rows → tile_at t rows.level rows.tile ≡ rows
+  pub tile_is : (rows : TileRows) → Among t.tiles rows → tile_rows_at t rows.level rows.tile ≡ rows
   tile_is rows there =
-      let got : TileRows = tile_at t rows.level rows.tile in
+      let got : TileRows = tile_rows_at t rows.level rows.tile in
       let f : Found (is_tile rows.level rows.tile) t.tiles no_tile (first_index (is_tile rows.level rows.tile) t.tiles) =
       found (is_tile rows.level rows.tile) t.tiles no_tile rows there (and_both (nat_eq rows.level rows.level) (nat_eq rows.tile rows.tile) (eq-eqb rows.level rows.level refl) (eq-eqb rows.tile rows.tile refl)) in
       let (level, tile) = and_parts (nat_eq rows.level got.level) (nat_eq rows.tile got.tile) f.0 in
@@ -93,7 +93,7 @@ module _ (x : Extract) (asked : ℕ) (numbers : FormatNumbers) (tile_of : ℕ �
 
   tile_by_is : (n : ℤ) (level : ℕ) (r : Row n level) → tile_by n level ≡ r.rows
   tile_by_is n level r =
-      ap (λ k. tile_at t k (tile_of level n)) (sym r.level_is) ∙ (ap (tile_at t r.rows.level) (sym r.tile_is) ∙ tile_is r.rows r.there)
+      ap (λ k. tile_rows_at t k (tile_of level n)) (sym r.level_is) ∙ (ap (tile_rows_at t r.rows.level) (sym r.tile_is) ∙ tile_is r.rows r.there)
 
   pub row_is : (n : ℤ) (level : ℕ) (r : Row n level) → node_row_at t tile_of n level ≡ r.row
   row_is n level r =
@@ -112,7 +112,7 @@ module _ (x : Extract) (asked : ℕ) (numbers : FormatNumbers) (tile_of : ℕ �
   node_own n k m l has_n has_m same =
       let (level, tile, place) =
       id_own k l (tile_of k n) (tile_of l m) (first_index (is_node n) (tile_by n k).nodes) (first_index (is_node m) (tile_by m l).nodes) (level_low n k has_n) (level_low m l has_m) (table.tiles_low n k has_n) (table.tiles_low m l has_m) same in
-      let rows : tile_by n k ≡ tile_by m l = λ i. tile_at t (level i) (tile i) in
+      let rows : tile_by n k ≡ tile_by m l = λ i. tile_rows_at t (level i) (tile i) in
       let node : node_row_at t tile_of n k ≡ node_row_at t tile_of m l = λ i. get_or (rows i).nodes (place i) no_node in
       (sym (osm_of n k has_n) ∙ (ap (λ s. s.osm) node ∙ osm_of m l has_m), level)
 
@@ -144,7 +144,7 @@ module _ (x : Extract) (asked : ℕ) (numbers : FormatNumbers) (tile_of : ℕ �
       let all_l : List (Link DirectedPiece) = links_of (tile_by m (link_level x l)) in
       let (level, tile, place) =
       id_own (link_level x k) (link_level x l) (tile_of (link_level x k) n) (tile_of (link_level x l) m) (first_index (same_link k) all_k) (first_index (same_link l) all_l) (level_low n (link_level x k) (has_from k is_k)) (level_low m (link_level x l) (has_from l is_l)) (table.tiles_low n (link_level x k) (has_from k is_k)) (table.tiles_low m (link_level x l) (has_from l is_l)) same in
-      let rows : tile_by n (link_level x k) ≡ tile_by m (link_level x l) = λ i. tile_at t (level i) (tile i) in
+      let rows : tile_by n (link_level x k) ≡ tile_by m (link_level x l) = λ i. tile_rows_at t (level i) (tile i) in
       let one : get_or all_k (first_index (same_link k) all_k) k ≡ get_or all_l (first_index (same_link l) all_l) k =
       λ i. get_or (links_of (rows i)) (place i) k in
       let f = found (same_link k) all_k k k (among_tile k is_k) (link_itself k) in

@@ -47,7 +47,8 @@ RowsInOrder = (x : Extract) (asked : ℕ) (numbers : FormatNumbers) (all : List 
 abbrev pub tiles_of : Extract → ℕ → FormatNumbers → List (List DirectedPiece × ℕ) → (ℕ → ℤ → ℕ) → ToldFields → List TileFields
 tiles_of x asked numbers all tile_of told = map (tile_from x told (extract_table x asked numbers all tile_of) tile_of) (extract_table x asked numbers all tile_of).tiles
 
--- The law of folders, from the rows: a road walk exactly where a tile walk over the graph of the tiles
+-- The law of folders, from the rows: a road walk exists exactly where a tile walk over the graph of
+-- the tiles does.
 abbrev pub SameFolderWalks : Type 0
 SameFolderWalks = (x : Extract) (asked : ℕ) (numbers : FormatNumbers) (all : List (List DirectedPiece × ℕ)) (tile_of : ℕ → ℤ → ℕ) (told : ToldFields) → AreRoads x asked numbers all tile_of → (mode : ℕ) → ShareMode numbers.all mode → (a b : ℤ) (total : ℕ) → RoadWalk x asked mode a b total ↔ TileWalk (graph_of_tiles (tiles_of x asked numbers all tile_of told)) numbers.vehicles mode a b total
 

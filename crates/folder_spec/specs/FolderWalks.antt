@@ -1,4 +1,4 @@
--- Walks over what a folder holds, by the names of the pieces.
+-- Walks over base edges and shortcuts, and over the nodes of the levels, both named by their pieces.
 use Rattle.std.specs.Prelude.{◌≡◌, ◌↔◌, ⊤, ℕ, ℤ, List, [], ◌∷◌, map, sum_by}
 use Rattle.osm_model.specs.declared.extract.Extract.{Extract}
 use Rattle.road_pieces.specs.DirectedPiece.{DirectedPiece}
@@ -20,10 +20,12 @@ abbrev pub AreLinked : Extract → ℕ → FormatNumbers → DirectedPiece → L
 AreLinked x asked numbers p [] = IsKeptPiece x asked p
 AreLinked x asked numbers p (q ∷ qs) = (level : ℕ) × IsEdgeChain x asked numbers level (p ∷ (q ∷ qs))
 
+-- a link that the mode may take
 pub record MayTake (x : Extract) (asked : ℕ) (numbers : FormatNumbers) (mode : ℕ) (link : Link DirectedPiece) : Type 0 where
   pub exists : AreLinked x asked numbers link.first link.more
   pub uses : Uses x mode link.first.way link.first.forward
 
+-- the junctions where a link starts and ends, and its length
 abbrev pub from_node : Extract → Link DirectedPiece → ℤ
 from_node x link = piece_start x link.first
 
@@ -33,6 +35,7 @@ to_node x link = piece_end x (last_edge link)
 abbrev pub link_cm : Extract → Link DirectedPiece → ℕ
 link_cm x link = sum_by (piece_cm x) (edges_of link)
 
+-- a link that may come after another one
 abbrev pub MayLink : Extract → FormatNumbers → ℕ → Link DirectedPiece → Link DirectedPiece → Type 0
 MayLink x numbers mode k l = MayFollowOn x numbers mode (last_edge k) l.first
 
@@ -45,7 +48,7 @@ pub record LinkWalk (x : Extract) (asked : ℕ) (numbers : FormatNumbers) (mode 
   pub permitted : (seq : List DirectedPiece) (modes : ℕ) → IsStoredSequence x asked numbers seq modes → ShareMode modes mode → Stands (map base_link seq) links → ⊥
   pub length_is : sum_by (link_cm x) links ≡ total
 
--- items: links, and transitions between the nodes of a junction
+-- the level of a link, by its first piece
 abbrev pub link_level : Extract → Link DirectedPiece → ℕ
 link_level x link = piece_level x link.first
 

@@ -1,4 +1,4 @@
--- Walks that may change the level at a junction.
+-- Items of walks that may change the level at a junction. Nothing here is about roads.
 use Rattle.std.specs.Prelude.{◌≢◌, ℕ, List, [], ◌∷◌}
 
 -- a node of the folder: a junction and a level
@@ -14,6 +14,7 @@ pub data LevelItem (N E : Type 0) : Type 0 where
   along : E → LevelItem N E
   change : N → ℕ → ℕ → LevelItem N E
 
+-- the edges among the items, in order
 abbrev pub edges_in : {N E : Type 0} → List (LevelItem N E) → List E
 edges_in [] = []
 edges_in (along e ∷ items) = e ∷ edges_in items
@@ -24,6 +25,7 @@ abbrev pub IsItem : {N E : Type 0} → (E → Type 0) → (N → ℕ → Type 0)
 IsItem Is HasNode (along e) = Is e
 IsItem Is HasNode (change n k l) = HasNode n k × HasNode n l × (k ≢ l)
 
+-- the nodes where an item starts and ends
 abbrev pub item_start : {N E : Type 0} → (E → N) → (E → ℕ) → LevelItem N E → LevelNode N
 item_start start level (along e) = level_node (start e) (level e)
 item_start start level (change n k l) = level_node n k

@@ -6,6 +6,7 @@ pub record Link (P : Type 0) : Type 0 where
   pub first : P
   pub more : List P
 
+-- a base edge as a link
 abbrev pub base_link : {P : Type 0} → P → Link P
 base_link p = record { first = p; more = [] }
 
@@ -18,5 +19,6 @@ abbrev pub last_edge_of : {P : Type 0} → P → List P → P
 last_edge_of p [] = p
 last_edge_of p (q ∷ qs) = last_edge_of q qs
 
+-- the last base edge of a link
 abbrev pub last_edge : {P : Type 0} → Link P → P
 last_edge link = last_edge_of link.first link.more

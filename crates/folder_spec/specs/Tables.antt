@@ -40,12 +40,14 @@ pub record RowTable : Type 0 where
   pub sequences : List (List DirectedPiece × ℕ)
   pub mask : DirectedPiece → ℕ
 
+-- what a look-up gives that finds nothing
 abbrev pub no_node : NodeRow
 no_node = record { osm = pos 0; links = []; levels = [] }
 
 abbrev pub no_tile : TileRows
 no_tile = record { level = 0; tile = 0; nodes = [] }
 
+-- equal lists of pieces, and equal links
 abbrev pub same_list : List DirectedPiece → List DirectedPiece → Bool
 same_list [] [] = true
 same_list [] (q ∷ qs) = false
@@ -62,12 +64,12 @@ abbrev pub is_node : ℤ → NodeRow → Bool
 is_node n r = int_eq n r.osm
 
 -- the rows of a tile and of a node
-abbrev pub tile_at : RowTable → ℕ → ℕ → TileRows
-tile_at t level tile = get_or t.tiles (first_index (is_tile level tile) t.tiles) no_tile
+abbrev pub tile_rows_at : RowTable → ℕ → ℕ → TileRows
+tile_rows_at t level tile = get_or t.tiles (first_index (is_tile level tile) t.tiles) no_tile
 
 abbrev pub node_row_at : RowTable → (ℕ → ℤ → ℕ) → ℤ → ℕ → NodeRow
 node_row_at t tile_of n level =
-    get_or (tile_at t level (tile_of level n)).nodes (first_index (is_node n) (tile_at t level (tile_of level n)).nodes) no_node
+    get_or (tile_rows_at t level (tile_of level n)).nodes (first_index (is_node n) (tile_rows_at t level (tile_of level n)).nodes) no_node
 
 -- the links of a tile in order
 abbrev pub links_of : TileRows → List (Link DirectedPiece)
@@ -76,11 +78,11 @@ links_of rows = flat_map (λ r. r.links) rows.nodes
 -- the GraphId of a junction's node on a level, and of a link
 abbrev pub node_graph_id : RowTable → (ℕ → ℤ → ℕ) → ℤ → ℕ → ℕ
 node_graph_id t tile_of n level =
-    value_of level (tile_of level n) (first_index (is_node n) (tile_at t level (tile_of level n)).nodes)
+    value_of level (tile_of level n) (first_index (is_node n) (tile_rows_at t level (tile_of level n)).nodes)
 
 abbrev pub link_graph_id : Extract → RowTable → (ℕ → ℤ → ℕ) → Link DirectedPiece → ℕ
 link_graph_id x t tile_of l =
-    value_of (link_level x l) (tile_of (link_level x l) (from_node x l)) (first_index (same_link l) (links_of (tile_at t (link_level x l) (tile_of (link_level x l) (from_node x l)))))
+    value_of (link_level x l) (tile_of (link_level x l) (from_node x l)) (first_index (same_link l) (links_of (tile_rows_at t (link_level x l) (tile_of (link_level x l) (from_node x l)))))
 
 -- the records of a link, of a node and of a sequence
 abbrev pub edge_row : Extract → RowTable → (ℕ → ℤ → ℕ) → Link DirectedPiece → GraphEdge
@@ -139,6 +141,6 @@ pub record IsExtractTable (x : Extract) (asked : ℕ) (numbers : FormatNumbers) 
   pub mask_is : (l : Link DirectedPiece) → AreLinked x asked numbers l.first l.more → (i : ℕ) → IsBitSet (t.mask (last_edge l)) i ↔ IsMaskBit x numbers (last_edge l) i
   pub tiles_low : (n : ℤ) (level : ℕ) → HasNode x asked n level → tile_of level n < tile_limit
 
--- The law of tables: for the graph of the extract's table, a road walk exactly where a tile walk
+-- The law of tables: for the graph of the extract's table, a road walk exists exactly where a tile walk does.
 abbrev pub SameTableWalks : Type 0
 SameTableWalks = (x : Extract) (asked : ℕ) (numbers : FormatNumbers) (tile_of : ℕ → ℤ → ℕ) (t : RowTable) → IsExtractTable x asked numbers tile_of t → (mode : ℕ) → ShareMode numbers.all mode → (a b : ℤ) (total : ℕ) → RoadWalk x asked mode a b total ↔ TileWalk (graph_of x t tile_of) numbers.vehicles mode a b total

@@ -7,6 +7,7 @@ pub mod PatternsAgree
 pub mod Stretches
 pub mod PieceMatchLaw
 pub mod ReadingLaw
+pub mod NodePatternLaw
 pub mod Sorted
 pub mod SequenceOrder
 pub mod PiecesAre

@@ -1,5 +1,5 @@
 -- Streets that meet at one node, worked out by hand: streets 1, 2, .. with two refs each, their number and the node.
-use Rattle.std.proofs.Common.{◌≡◌, ℕ, zero, suc, ◌+◌, ◌*◌, ◌<◌, ◌≤◌, pos, List, [], ◌∷◌, length, refl, arith, ◌∙◌, lit≤, true, false, inr}
+use Rattle.std.proofs.Common.{Bool, ℤ, ◌≡◌, ℕ, zero, suc, ◌+◌, ◌*◌, ◌<◌, ◌≤◌, pos, List, [], ◌∷◌, length, map, refl, arith, ◌∙◌, lit≤, true, false, inr}
 use Rattle.std.specs.Prelude.{codes, ◌<ℤ◌, All, sum_by}
 use Rattle.std.proofs.lemmas.List.Sums.{sum_by-cons}
 use Rattle.std.proofs.lemmas.List.Kept.{AllPairs-cons}
@@ -156,3 +156,45 @@ tenth_index = refl
 
 a_sequence : in_mask (local_index ten_streets) tile_numbers.vehicles tile_numbers.bits (into 1 ∷ (out_of 10 ∷ [])) 77 ≡ false
 a_sequence = refl
+
+-- way 5 with refs 4, 2, 5 and way 7 with refs 1, 2, 3, which cross at node 2: its edges along way 7 have the local
+-- indexes 2 and 3
+abbrev way_of : ℕ → List ℕ → OsmWay
+way_of id refs = record { id = pos id; tags = record { key = codes "highway"; value = codes "residential" } ∷ []; refs = map pos refs }
+
+abbrev crossing_ways : List OsmWay
+crossing_ways = way_of 5 (4 ∷ 2 ∷ 5 ∷ []) ∷ (way_of 7 (1 ∷ 2 ∷ 3 ∷ []) ∷ [])
+
+above : pos 5 <ℤ pos 7
+above = omega (arith, ints)
+
+crossing_rise : WaysRise crossing_ways
+crossing_rise =
+    AllPairs-cons (λ a b. a.id <ℤ b.id) (way_of 5 (4 ∷ 2 ∷ 5 ∷ [])) (way_of 7 (1 ∷ 2 ∷ 3 ∷ []) ∷ []) (All-cons (λ w. pos 5 <ℤ w.id) (way_of 7 (1 ∷ 2 ∷ 3 ∷ [])) [] above (All-nil (λ w. pos 5 <ℤ w.id))) (λ i j d h l. absurd (omega arith))
+
+abbrev crossing : Extract
+crossing = record {
+  nodes = nodes_from 1 5;
+  ways = crossing_ways;
+  relations = [];
+  nodes_rise = nodes_rise 1 5;
+  ways_rise = crossing_rise;
+  relations_rise = relations_rise;
+  placed = placed 1 5;
+  node_limit = lit≤ tt;
+  way_limit = lit≤ tt;
+  relation_limit = lit≤ tt;
+  ref_limit = lit≤ tt;
+  member_limit = lit≤ tt;
+  tag_limit = lit≤ tt;
+}
+
+along_7 : ℕ → Bool → DirectedPiece
+along_7 from forward = record { way = pos 7; run = 0; from = from; to = from + 1; forward = forward }
+
+edges_at_2 : map {B = ℤ × ℕ} (λ p. (p.way, p.from)) (base_edges crossing (pos 2)) ≡ (pos 5, 0) ∷ (pos 5, 1) ∷ (pos 7, 0) ∷ (pos 7, 1) ∷ []
+edges_at_2 = refl
+
+indexes_at_2 : map (local_index crossing) (along_7 0 false ∷ along_7 1 true ∷ []) ≡ 2 ∷ 3 ∷ []
+unfolding along_7
+indexes_at_2 = refl

@@ -1,13 +1,13 @@
 -- Local indexes, a match and its pattern, worked out by hand on a small extract: refs 1, 2, 3, 4, 2, where a stem
 -- leads to node 2, and a loop from node 2 to itself.
-use Rattle.std.proofs.Common.{◌≡◌, pos, [], ◌∷◌, map, refl, arith, lit≤, true, false, inr}
+use Rattle.std.proofs.Common.{Bool, ℕ, ◌≡◌, pos, [], ◌∷◌, map, refl, arith, lit≤, true, false, inr}
 use Rattle.std.proofs.lemmas.List.Elements.{All-nil}
 use Rattle.road_pieces.specs.declared.steps.Step.{Step}
 use Rattle.road_pieces.specs.DirectedPiece.{DirectedPiece}
 use Rattle.road_pieces.specs.Pieces.{IsPiece}
 use Rattle.road_pieces.specs.Turns.{Written}
 use Rattle.road_pieces.specs.Matches.{TurnRule, via_node, IsMatch, reversed}
-use Rattle.road_pieces.proofs.WorkedRows.{lasso}
+use Rattle.road_pieces.proofs.WorkedRows.{lasso, loops}
 use Rattle.road_walks.specs.BaseEdges.{base_edges, local_index}
 
 abbrev pub stem_on : DirectedPiece
@@ -65,3 +65,7 @@ its_pattern = record {
   ends_with_first = ([], refl);
   begins_with_last = ([], refl);
 }
+
+-- refs 1, 2, 3, 1, 4, 5, 1: two loops at one junction, each of which is two base edges there
+at_the_loops : map {B = ℕ × Bool} (λ p. (p.from, p.forward)) (base_edges loops (pos 1)) ≡ (0, true) ∷ (0, false) ∷ (3, true) ∷ (3, false) ∷ []
+at_the_loops = refl

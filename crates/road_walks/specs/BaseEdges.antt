@@ -21,7 +21,7 @@ pub record FormatNumbers : Type 0 where
   pub vehicles : ℕ
   pub bits : ℕ
 
--- so many bits has a mask
+-- a mask has so many bits
 abbrev pub mask_bits : ℕ
 mask_bits = 8
 
@@ -33,7 +33,7 @@ tile_numbers = record { all = all_mode_bits; vehicles = vehicle_mode_bits; bits 
 abbrev pub reverse_of : DirectedPiece → DirectedPiece
 reverse_of p = record { way = p.way; run = p.run; from = p.from; to = p.to; forward = not p.forward }
 
--- all directed pieces, in order of way, run, piece, forward first
+-- all directed pieces, in order of way, run, piece, forward first: those of a run, of a way, of the extract
 abbrev pub run_pieces : Extract → ℤ → ℕ → List ℤ → List DirectedPiece
 run_pieces x way number run =
     flat_map (λ (from, to). record { way = way; run = number; from = from; to = to; forward = true } ∷ (record { way = way; run = number; from = from; to = to; forward = false } ∷ [])) (spans (stops (is_junction x) 0 run))
@@ -48,6 +48,7 @@ directed_pieces x = flat_map (way_pieces x) x.ways
 abbrev pub base_edges : Extract → ℤ → List DirectedPiece
 base_edges x n = filter (λ p. int_eq (piece_start x p) n) (directed_pieces x)
 
+-- two directed pieces are equal
 abbrev pub is_same : DirectedPiece → DirectedPiece → Bool
 is_same p q =
     int_eq p.way q.way && (nat_eq p.run q.run && (nat_eq p.from q.from && (nat_eq p.to q.to && (if p.forward then q.forward else not q.forward))))
@@ -65,7 +66,7 @@ pub record IsKeptPiece (x : Extract) (asked : ℕ) (p : DirectedPiece) : Type 0 
 abbrev pub IsMaskBit : Extract → FormatNumbers → DirectedPiece → ℕ → Type 0
 IsMaskBit x numbers e i = IsMaskBitOf (IsPattern x) (local_index x) numbers.vehicles numbers.bits e i
 
--- a sequence, written or not, and one that is written
+-- a sequence, stored or not, and one that is stored
 abbrev pub IsTurnSequence : Extract → FormatNumbers → List DirectedPiece → ℕ → Type 0
 IsTurnSequence x numbers pattern modes = IsSequenceOf (IsPattern x) (local_index x) numbers.vehicles numbers.bits pattern modes
 
@@ -73,7 +74,7 @@ abbrev pub IsStoredSequence : Extract → ℕ → FormatNumbers → List Directe
 IsStoredSequence x asked numbers pattern modes =
     IsStoredSequenceOf (IsPattern x) (local_index x) numbers.vehicles numbers.bits (IsKeptPiece x asked) pattern modes
 
--- a piece that stands in a sequence, written or not, in this direction or the other
+-- a piece that stands in a sequence, stored or not, in this direction or the other
 pub record IsFlagged (x : Extract) (numbers : FormatNumbers) (p : DirectedPiece) : Type 0 where
   pub pattern : List DirectedPiece
   pub modes : ℕ

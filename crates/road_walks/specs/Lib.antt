@@ -6,4 +6,5 @@ pub mod EdgeWalks
 pub mod PatternLaws
 pub mod PieceMatches
 pub mod Readings
+pub mod NodePatterns
 pub mod Stages

@@ -1,4 +1,4 @@
--- Masks and sequences: how the patterns of forbidden turns are told on edges.
+-- Masks and sequences: how the patterns of forbidden turns are told on edges. Nothing here is about roads.
 use Rattle.std.specs.Prelude.{◌≡◌, ◌&&◌, ℕ, ◌<◌, Bool, false, List, [], ◌∷◌, All, nat_eq, nat_lt}
 
 -- a pattern that a mask tells: it has two pieces, its modes are exactly the vehicles, and the second piece has
@@ -19,7 +19,7 @@ pub record IsSequenceOf {P : Type 0} (IsPattern : List P → ℕ → Type 0) (lo
   pub is : IsPattern pattern modes
   pub not_in_mask : in_mask local_index vehicles bits pattern modes ≡ false
 
--- a sequence that is written: all its pieces are kept
+-- a sequence that is stored: all its pieces are kept
 pub record IsStoredSequenceOf {P : Type 0} (IsPattern : List P → ℕ → Type 0) (local_index : P → ℕ) (vehicles bits : ℕ) (IsKeptPiece : P → Type 0) (pattern : List P) (modes : ℕ) : Type 0 where
   pub sequence : IsSequenceOf IsPattern local_index vehicles bits pattern modes
   pub kept : All IsKeptPiece pattern

@@ -29,6 +29,7 @@ list_less [] (m ∷ ms) = true
 list_less (n ∷ ns) [] = false
 list_less (n ∷ ns) (m ∷ ms) = nat_lt n m || (nat_eq n m && list_less ns ms)
 
+-- equal lists of numbers, and of texts
 abbrev pub same_numbers : List ℕ → List ℕ → Bool
 same_numbers [] [] = true
 same_numbers [] (m ∷ ms) = false
@@ -41,6 +42,6 @@ same_texts [] (m ∷ ms) = false
 same_texts (n ∷ ns) [] = false
 same_texts (n ∷ ns) (m ∷ ms) = same_numbers n m && same_texts ns ms
 
--- by the list of values, then by the modes
+-- the order of sequences: by the list of GraphIds, then by the modes
 abbrev pub sequence_below : List ℕ × ℕ → List ℕ × ℕ → Bool
 sequence_below s t = list_less s.0 t.0 || (same_numbers s.0 t.0 && nat_lt s.1 t.1)

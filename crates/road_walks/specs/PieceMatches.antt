@@ -1,4 +1,4 @@
--- Matches of rows of turns, written in directed pieces.
+-- Matches of turn restrictions, written in directed pieces.
 use Rattle.std.specs.Prelude.{◌≡◌, ◌≢◌, ◌↔◌, ⊤, ℤ, Bool, true, false, List, [], ◌∷◌, ◌++◌}
 use Rattle.std.specs.List.{flat_map, Contains}
 use Rattle.osm_model.specs.declared.extract.Extract.{Extract}
@@ -28,20 +28,25 @@ pub record IsPart (way : ℤ) (part : List DirectedPiece) : Type 0 where
   pub same_way : first.way ≡ way
   pub goes_on : AllFollow PieceGoesOn part
 
+-- a part for each via way, in order
 abbrev pub ArePieceParts : List ℤ → List (List DirectedPiece) → Type 0
 ArePieceParts [] parts = parts ≡ []
 ArePieceParts (way ∷ ways) [] = ⊥
 ArePieceParts (way ∷ ways) (part ∷ parts) = IsPart way part × ArePieceParts ways parts
 
+-- where both pieces at a via node are of one way, a u-turn takes the reverse of the first alone, and another turn every
+-- other one
 abbrev pub PieceTurnsBack : Bool → DirectedPiece → DirectedPiece → Type 0
 PieceTurnsBack true first last = last ≡ reverse_of first
 PieceTurnsBack false first last = last ≢ reverse_of first
 
+-- the parts between the first and the last piece, as via asks
 abbrev pub AreViaParts : Extract → Bool → TurnVia → DirectedPiece → List (List DirectedPiece) → DirectedPiece → Type 0
 AreViaParts x u_turn (via_node n) first parts last =
     (parts ≡ []) × (piece_end x first ≡ n) × (first.way ≡ last.way → PieceTurnsBack u_turn first last)
 AreViaParts x u_turn (via_ways ways) first parts last = ArePieceParts ways parts
 
+-- a match: a piece of a from way, the parts between, a piece of a to way, each starting where the one before ends
 pub record IsPieceMatch (x : Extract) (row : TurnRule) (pattern : List DirectedPiece) : Type 0 where
   pub first : DirectedPiece
   pub parts : List (List DirectedPiece)
@@ -62,10 +67,11 @@ pub record IsPieceOther (x : Extract) (row : TurnRule) (pattern : List DirectedP
   pub begins : piece_start x other ≡ piece_start x match.last
   pub unmatched : IsPieceMatch x row pattern → ⊥
 
+-- what a restriction forbids, written in pieces
 abbrev pub PieceForbidden : Extract → Bool → TurnRule → List DirectedPiece → Type 0
 PieceForbidden x true row pattern = IsPieceOther x row pattern
 PieceForbidden x false row pattern = IsPieceMatch x row pattern
 
--- the law: the patterns of a row are what it forbids in pieces
+-- The law of pieces: the patterns of a turn restriction are what it forbids in pieces.
 abbrev pub PiecesTell : Type 0
 PiecesTell = (x : Extract) (row : TurnRule) (pattern : List DirectedPiece) → IsRowPattern x row pattern ↔ PieceForbidden x row.only row pattern

@@ -1,4 +1,4 @@
--- Matches of a row with via ways, read piece by piece.
+-- Matches of a turn restriction with via ways, read piece by piece.
 use Rattle.std.specs.Prelude.{◌≡◌, ◌↔◌, ℤ, List, [], ◌∷◌}
 use Rattle.std.specs.List.{Contains}
 use Rattle.osm_model.specs.declared.extract.Extract.{Extract}
@@ -31,6 +31,6 @@ pub record IsMatchReading (x : Extract) (row : TurnRule) (way : ℤ) (ways : Lis
   pub same_way : second.way ≡ way
   pub completes : Completes x row.to ways second rest
 
--- the law of readings
+-- The law of readings: a match of a restriction with via ways is one that is read piece by piece.
 abbrev pub SameReadings : Type 0
 SameReadings = (x : Extract) (row : TurnRule) (way : ℤ) (ways : List ℤ) → row.via ≡ via_ways (way ∷ ways) → (pattern : List DirectedPiece) → IsPieceMatch x row pattern ↔ IsMatchReading x row way ways pattern

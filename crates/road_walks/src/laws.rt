@@ -5,6 +5,7 @@ ghost use Rattle.road_walks.specs.EdgeWalks.{SameEdges};
 ghost use Rattle.road_walks.specs.PatternLaws.{MasksTell, PatternsTell, SequencesTell};
 ghost use Rattle.road_walks.specs.PieceMatches.{PiecesTell};
 ghost use Rattle.road_walks.specs.Readings.{SameReadings};
+ghost use Rattle.road_walks.specs.NodePatterns.{SameNodePatterns};
 ghost use Rattle.road_walks.specs.Stages.{KeepsStage, LiftsStage, StagesAlike};
 
 /// The list of directed pieces has exactly the directed pieces of the roads, each once.
@@ -46,6 +47,11 @@ pub fn pieces_tell_patterns()
 /// A match of a turn restriction with via ways is one that is read piece by piece.
 pub fn readings_agree()
     ensures { SameReadings }
+{}
+
+/// The patterns of a turn restriction with a via node, an only one too, are pairs of pieces that meet there.
+pub fn node_patterns_agree()
+    ensures { SameNodePatterns }
 {}
 
 /// Keeping some edges of the tiles that edges make gives the tiles that the kept edges make.

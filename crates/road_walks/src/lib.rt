@@ -5,6 +5,7 @@
 mod laws;
 
 pub use laws::{
-    edges_agree, keep_gives_stage, lift_gives_stage, masks_tell, own_indexes, patterns_tell,
-    pieces_listed, pieces_tell_patterns, readings_agree, sequences_tell, stage_of_edges,
+    edges_agree, keep_gives_stage, lift_gives_stage, masks_tell, node_patterns_agree, own_indexes,
+    patterns_tell, pieces_listed, pieces_tell_patterns, readings_agree, sequences_tell,
+    stage_of_edges,
 };

@@ -1,4 +1,4 @@
--- What a tile file holds, and the graph that tiles give: each record under its number.
+-- What a tile file holds, and the graph that tiles give: each record under its GraphId.
 use Rattle.fixed_geo.specs.declared.points.Point.{Point}
 use Rattle.std.specs.Prelude.{ℕ, ℤ, suc, ◌-◌, length, nat_eq, if◌then◌else◌, List, [], ◌∷◌, map, take, drop}
 use Rattle.std.specs.List.{flat_map}
@@ -15,6 +15,7 @@ pub record InfoFields : Type 0 where
   pub points : List Point
   pub names : List ℕ
 
+-- a tile: its level and number, the asked modes, and its lists in the order of the file
 pub record TileFields : Type 0 where
   pub level : ℕ
   pub tile : ℕ
@@ -27,6 +28,7 @@ pub record TileFields : Type 0 where
   pub infos : List InfoFields
   pub texts : List (List ℕ)
 
+-- an edge under its GraphId
 abbrev pub edge_under : ℕ → EdgeFields → GraphEdge
 edge_under id e = record {
   id = id;
@@ -37,15 +39,16 @@ edge_under id e = record {
   cm = e.cm;
 }
 
--- edges under the numbers of successive places
+-- edges under the GraphIds of successive indexes
 abbrev pub edges_under : ℕ → ℕ → ℕ → List EdgeFields → List GraphEdge
 edges_under level tile place [] = []
 edges_under level tile place (e ∷ es) = edge_under (value_of level tile place) e ∷ edges_under level tile (suc place) es
 
--- so many elements from a place on
+-- so many elements from an index on
 abbrev pub slice : {E : Type 0} → ℕ → ℕ → List E → List E
 slice place count es = take count (drop place es)
 
+-- a node under its GraphId, with its slices of the edges and transitions; the nodes of a tile
 abbrev pub node_under : TileFields → ℕ → NodeFields → GraphNode
 node_under t place n = record {
   id = value_of t.level t.tile place;
