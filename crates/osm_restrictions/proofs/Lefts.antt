@@ -1,5 +1,5 @@
 -- What is left of a set of modes where each part takes some away.
-use Rattle.std.proofs.Common.{◌≡◌, ℕ, Bool, true, false, not, ◌&&◌, ◌||◌, refl, sym, ap, ◌∙◌, List, [], ◌∷◌}
+use Rattle.std.proofs.Common.{◌≡◌, ℕ, Bool, true, false, not, ◌&&◌, ◌||◌, refl, ap, ◌∙◌, List, [], ◌∷◌}
 use Rattle.std.specs.Prelude.{bit_and, bit_xor, fold}
 use Rattle.std.specs.List.{list_any}
 use Rattle.way_tags.specs.Modes.{Mode, word_of}

@@ -1,7 +1,7 @@
 -- The keys of access, from the one that is tried last to the one that is tried first: each overrides those
 -- before it for its modes, so for each mode the first key that says something decides.
-use Rattle.std.proofs.Common.{◌≡◌, ℕ, Bool, true, false, cond, refl, sym, subst, ap, ◌∙◌, List, [], ◌∷◌, inl, inr}
-use Rattle.std.specs.Prelude.{codes, unwrap_or, option_and_then, option_map, Option, Some, None, IsTrue, ◌↔◌, ◌&&◌, ◌||◌, ◌⊎◌, not}
+use Rattle.std.proofs.Common.{◌≡◌, ℕ, Bool, true, false, cond, refl, sym, ap, ◌∙◌, List, [], ◌∷◌, inl, inr}
+use Rattle.std.specs.Prelude.{codes, unwrap_or, option_and_then, option_map, Option, Some, None, IsTrue, ◌↔◌, ◌||◌, ◌⊎◌, not}
 use Rattle.std.specs.Option.{option_map_or}
 use Rattle.std.specs.Str.{bytes_eq}
 use Rattle.std.proofs.lemmas.Option.{same_Some}

@@ -1,5 +1,5 @@
 -- What the tags of a way say: whether it is a road, of which class, and who may use it in which direction.
-use Rattle.std.specs.Prelude.{◌≡◌, ℕ, Bool, true, false, ◌&&◌, ◌||◌, ◌⊎◌, List, [], ◌∷◌, Option, None, codes, option_map, option_and_then, if◌then◌else◌, IsSome, IsTrue}
+use Rattle.std.specs.Prelude.{ℕ, Bool, false, ◌&&◌, ◌||◌, ◌⊎◌, List, [], ◌∷◌, Option, None, codes, option_map, option_and_then, if◌then◌else◌, IsTrue}
 use Rattle.std.specs.Option.{option_map_or}
 use Rattle.osm_model.specs.declared.tags.Tag.{Tag}
 use Rattle.osm_model.specs.Tags.{value_of}
