@@ -1,5 +1,5 @@
 -- A restriction whose kind is known.
-use Rattle.std.proofs.Common.{◌≡◌, ℕ, false, cond, refl, sym, subst, ap, ◌∙◌, List}
+use Rattle.std.proofs.Common.{◌≡◌, ℕ, false, refl, sym, subst, ap, ◌∙◌, List}
 use Rattle.std.specs.Prelude.{Option, Some, None, Result, Err, IfOk, option_map, option_and_then}
 use Rattle.std.proofs.lemmas.Option.{same_Some}
 use Rattle.std.proofs.lemmas.Bool.{cond-false}

@@ -1,5 +1,5 @@
 -- What stays in order of id where relations give rows.
-use Rattle.std.proofs.Common.{◌≡◌, ℕ, zero, suc, ◌+◌, ◌<◌, refl, sym, subst, ap, ◌∙◌, List, [], ◌∷◌, length, get_or, ℤ, arith, lit<}
+use Rattle.std.proofs.Common.{◌≡◌, suc, refl, sym, subst, List, [], ◌∷◌, ℤ, arith}
 use Rattle.std.specs.Prelude.{Option, Some, None, filter_map, All, AllPairs, ◌<ℤ◌}
 use Rattle.std.specs.List.{cons_option}
 use Rattle.std.proofs.lemmas.List.Elements.{All-nil, All-cons, All-tail, All-head}

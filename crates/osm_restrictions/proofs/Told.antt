@@ -1,6 +1,6 @@
 -- Each restriction is one row or one skip.
-use Rattle.std.proofs.Common.{◌≡◌, ◌≢◌, ℕ, zero, suc, Bool, true, false, not, cond, ℤ, refl, sym, subst, ap, ◌∙◌, List, [], ◌∷◌}
-use Rattle.std.specs.Prelude.{Option, Some, None, Result, Ok, Err, filter_map, ◌==◌, codes, option_to_list, length}
+use Rattle.std.proofs.Common.{◌≡◌, Bool, true, false, not, cond, ℤ, refl, sym, subst, ap, ◌∙◌, List, [], ◌∷◌}
+use Rattle.std.specs.Prelude.{Option, Some, None, Result, Ok, Err, filter_map, ◌==◌}
 use Rattle.std.specs.List.{cons_option}
 use Rattle.std.proofs.lemmas.Option.{same_Some}
 use Rattle.std.proofs.lemmas.Bool.{both_ways, eqb-true, eqb-false}
@@ -15,9 +15,9 @@ use Rattle.osm_restrictions.specs.Keys.{is_restriction, is_conditional}
 use Rattle.osm_restrictions.specs.Kinds.{KindRow}
 use Rattle.osm_restrictions.specs.Members.{via_of}
 use Rattle.osm_restrictions.specs.Exceptions.{restricted_modes}
-use Rattle.osm_restrictions.specs.Turns.{kind_of, is_from_right, is_to_right, turn_row, through_via, of_kind, turn_of}
+use Rattle.osm_restrictions.specs.Turns.{kind_of, is_from_right, is_to_right, through_via, of_kind, turn_of}
 use Rattle.osm_restrictions.specs.Rows.{row_in, skipped_in, row_of, skipped_of}
-use Rattle.osm_restrictions.specs.Reasons.{HasReason, HasNoneOf, reasons_before, IsSkippedFor, IsTurn, Tell, no_relation, no_restriction, one_row, one_skip, RowsRise, SkipsRise}
+use Rattle.osm_restrictions.specs.Reasons.{HasReason, IsSkippedFor, IsTurn, Tell, no_relation, no_restriction, one_row, one_skip, RowsRise, SkipsRise}
 use Rattle.osm_restrictions.proofs.Rises.{given_rise}
 
 -- what an outcome says

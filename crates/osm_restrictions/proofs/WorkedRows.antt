@@ -1,16 +1,13 @@
 -- The definitions, computed on small relations whose answers were read off the tables by hand.
 use Prim.Native.String.{String}
-use Rattle.std.proofs.Common.{◌≡◌, ℕ, ℤ, pos, Bool, true, false, List, [], ◌∷◌, ◌++◌, map, refl}
-use Rattle.std.specs.Prelude.{codes, Option, Some, None, Result, Ok, Err, filter_map}
+use Rattle.std.proofs.Common.{◌≡◌, ℕ, pos, Bool, true, false, List, [], ◌∷◌, ◌++◌, map, refl}
+use Rattle.std.specs.Prelude.{codes, Result, Ok, Err, filter_map}
 use Rattle.osm_model.specs.declared.tags.Tag.{Tag}
 use Rattle.osm_model.specs.declared.relations.Member.{Member}
-use Rattle.osm_model.specs.declared.relations.MemberKind.{MemberKind}
 use Rattle.osm_model.specs.declared.relations.MemberKind.TheVariants as kinds
 use Rattle.osm_model.specs.declared.relations.OsmRelation.{OsmRelation}
-use Rattle.osm_restrictions.specs.declared.rows.Via.{Via}
 use Rattle.osm_restrictions.specs.declared.rows.Via.TheVariants as vias
 use Rattle.osm_restrictions.specs.declared.rows.TurnRow.{TurnRow}
-use Rattle.osm_restrictions.specs.declared.rows.Skipped.{Skipped}
 use Rattle.osm_restrictions.specs.declared.rows.SkipReason.{SkipReason}
 use Rattle.osm_restrictions.specs.declared.rows.SkipReason.TheVariants as skips
 use Rattle.osm_restrictions.specs.Exceptions.{without_spaces, restricted_modes}

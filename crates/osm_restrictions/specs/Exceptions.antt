@@ -30,16 +30,16 @@ exceptions =
     ∷ record { values = codes "motor_vehicle" ∷ []; modes = auto ∷ truck ∷ bus ∷ [] }
     ∷ []
 
-abbrev pub takes_away : List ℕ → Mode → Bool
-takes_away part mode = option_map_or (λ row. is_listed row.modes mode) (find (λ row. is_among row.values part) exceptions) false
+abbrev pub is_taken_away : List ℕ → Mode → Bool
+is_taken_away part mode = option_map_or (λ row. is_listed row.modes mode) (find (λ row. is_among row.values part) exceptions) false
 
 -- the same modes as a number
 unfoldable pub taken_modes : List ℕ → ℕ
-taken_modes part = word_of (takes_away (without_spaces part))
+taken_modes part = word_of (is_taken_away (without_spaces part))
 
 -- the value is cut at each semicolon, and the spaces are taken off both ends of each part
 abbrev pub is_excepted_by : List ℕ → Mode → Bool
-is_excepted_by value mode = list_any (λ part. takes_away (without_spaces part) mode) (slice_split (λ byte. byte == 59) value)
+is_excepted_by value mode = list_any (λ part. is_taken_away (without_spaces part) mode) (slice_split (λ byte. byte == 59) value)
 
 abbrev pub is_excepted : List Tag → Mode → Bool
 is_excepted tags mode = option_map_or (λ value. is_excepted_by value mode) (value_of (codes "except") tags) false

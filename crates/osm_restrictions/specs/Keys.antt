@@ -5,11 +5,11 @@ use Rattle.std.specs.Option.{option_map_or}
 use Rattle.osm_model.specs.declared.tags.Tag.{Tag}
 use Rattle.osm_model.specs.Tags.{value_of}
 use Rattle.way_tags.specs.Modes.{Mode, auto, bicycle, truck, bus, is_listed}
-use Rattle.way_tags.specs.Values.{says_one_of}
+use Rattle.way_tags.specs.Values.{has_value_among}
 
 -- a relation is a restriction of turns
 abbrev pub is_restriction : List Tag → Bool
-is_restriction tags = says_one_of tags (codes "type") (codes "restriction" ∷ [])
+is_restriction tags = has_value_among tags (codes "type") (codes "restriction" ∷ [])
 
 -- a key, and the modes of which it speaks
 pub record RestrictionKey : Type 0 where

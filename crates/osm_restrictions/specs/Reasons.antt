@@ -1,6 +1,6 @@
 -- What a relation says of turns, in the words of the subject: a restriction is skipped for the first reason that
 -- it has, or it has none and is one row.
-use Rattle.std.specs.Prelude.{◌≡◌, ◌≢◌, ℕ, ℤ, ◌<ℤ◌, true, false, List, [], ◌∷◌, Some, None, codes, AllPairs}
+use Rattle.std.specs.Prelude.{◌≡◌, ◌<ℤ◌, true, false, List, [], ◌∷◌, Some, None, codes, AllPairs}
 use Rattle.osm_model.specs.declared.relations.OsmRelation.{OsmRelation}
 use Rattle.osm_model.specs.declared.relations.MemberKind.TheVariants as kinds
 use Rattle.osm_restrictions.specs.declared.rows.TurnRow.{TurnRow}

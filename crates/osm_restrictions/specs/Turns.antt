@@ -1,5 +1,5 @@
 -- What a restriction is: a row of turns, or skipped for the first reason that holds.
-use Rattle.std.specs.Prelude.{ℕ, ◌==◌, Bool, not, List, length, Option, Some, None, Result, Ok, Err, codes, option_and_then, if◌then◌else◌}
+use Rattle.std.specs.Prelude.{◌==◌, Bool, not, length, Option, Some, None, Result, Ok, Err, codes, option_and_then, if◌then◌else◌}
 use Rattle.osm_model.specs.declared.relations.OsmRelation.{OsmRelation}
 use Rattle.osm_model.specs.declared.relations.MemberKind.TheVariants as kinds
 use Rattle.osm_restrictions.specs.declared.rows.Via.{Via}

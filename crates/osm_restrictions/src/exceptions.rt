@@ -3,7 +3,7 @@
 ghost use Rattle.std.specs.Prelude.{◌≡◌, ◌==◌, bit_and, bit_xor, fold};
 ghost use Rattle.std.specs.List.{slice_split};
 ghost use Rattle.way_tags.specs.Modes.{word_of};
-ghost use Rattle.osm_restrictions.specs.Exceptions.{past_spaces, without_spaces, takes_away, taken_modes, restricted_modes};
+ghost use Rattle.osm_restrictions.specs.Exceptions.{past_spaces, without_spaces, is_taken_away, taken_modes, restricted_modes};
 
 use crate::keys::spoken_modes;
 use osm_model::TagsView;
@@ -39,7 +39,7 @@ fn taken_by(part: &[u8]) -> u16
 
 /// The modes that a part without spaces takes away.
 fn modes_of(part: &[u8]) -> u16
-    ensures { result ≡ word_of (takes_away part.now) }
+    ensures { result ≡ word_of (is_taken_away part.now) }
 {
     if part == b"bicycle".as_slice() {
         BICYCLE

@@ -1,7 +1,7 @@
 -- The keys of access, from the one that is tried last to the one that is tried first: each overrides those
 -- before it for its modes, so for each mode the first key that says something decides.
-use Rattle.std.proofs.Common.{◌≡◌, ℕ, Bool, true, false, cond, refl, sym, subst, ap, ◌∙◌, List, [], ◌∷◌, inl, inr}
-use Rattle.std.specs.Prelude.{codes, unwrap_or, option_and_then, option_map, Option, Some, None, IsTrue, ◌↔◌, ◌&&◌, ◌||◌, ◌⊎◌, not}
+use Rattle.std.proofs.Common.{◌≡◌, ℕ, Bool, true, false, cond, refl, sym, ap, ◌∙◌, List, [], ◌∷◌, inl, inr}
+use Rattle.std.specs.Prelude.{codes, unwrap_or, option_and_then, option_map, Option, Some, None, IsTrue, ◌↔◌, ◌||◌, ◌⊎◌, not}
 use Rattle.std.specs.Option.{option_map_or}
 use Rattle.std.specs.Str.{bytes_eq}
 use Rattle.std.proofs.lemmas.Option.{same_Some}
@@ -11,7 +11,7 @@ use Rattle.osm_model.specs.Tags.{value_of}
 use Rattle.way_tags.specs.declared.directions.Dir.{Dir}
 use Rattle.way_tags.specs.declared.highways.Road.{Road}
 use Rattle.way_tags.specs.Modes.{Mode, auto, pedestrian, bicycle, truck, bus, word_of, is_listed}
-use Rattle.way_tags.specs.Access.{keys_of, decided, meaning, meaning_at, without_leave}
+use Rattle.way_tags.specs.Access.{keys_of, decision, meaning, meaning_at, without_leave}
 use Rattle.way_tags.specs.Highways.{HighwayRow}
 use Rattle.way_tags.specs.Oneways.{oneway_by_tags, is_along, is_exempt}
 use Rattle.way_tags.specs.Ways.{is_open, is_open_by, is_permitted, Permits}
@@ -34,18 +34,18 @@ refused_at : (o : Option (List ℕ)) → without_leave (option_and_then meaning 
 refused_at None = refl
 refused_at (Some value) = refl
 
-pub all_laid : (tags : List Tag) (f : Mode → Bool) → word_of (laid_all (without_leave (said tags (codes "access"))) (said tags (codes "vehicle")) (said tags (codes "motor_vehicle")) (said tags (codes "motorcar")) (said tags (codes "hgv")) (said tags (codes "psv")) (said tags (codes "bus")) (said tags (codes "bicycle")) (said tags (codes "foot")) f) ≡ word_of (λ mode. decided tags (keys_of mode) (f mode))
+pub all_laid : (tags : List Tag) (f : Mode → Bool) → word_of (laid_all (without_leave (said tags (codes "access"))) (said tags (codes "vehicle")) (said tags (codes "motor_vehicle")) (said tags (codes "motorcar")) (said tags (codes "hgv")) (said tags (codes "psv")) (said tags (codes "bus")) (said tags (codes "bicycle")) (said tags (codes "foot")) f) ≡ word_of (λ mode. decision tags (keys_of mode) (f mode))
 all_laid tags f =
     ap (λ a. word_of (laid_all a (said tags (codes "vehicle")) (said tags (codes "motor_vehicle")) (said tags (codes "motorcar")) (said tags (codes "hgv")) (said tags (codes "psv")) (said tags (codes "bus")) (said tags (codes "bicycle")) (said tags (codes "foot")) f))
     (refused_at (value_of (codes "access") tags))
 
 -- a road is open as its row's default and its tags say
-pub open_by_row : (tags : List Tag) (row : Option HighwayRow) (road : Road) (modes : ℕ) → Some road ≡ option_map (λ (r : HighwayRow). record { class = r.class; modes = word_of (is_listed r.modes) }) row → ((f : Mode → Bool) → road.modes ≡ word_of f → modes ≡ word_of (λ mode. decided tags (keys_of mode) (f mode))) → modes ≡ word_of (λ mode. option_map_or (is_open_by tags mode) row false)
+pub open_by_row : (tags : List Tag) (row : Option HighwayRow) (road : Road) (modes : ℕ) → Some road ≡ option_map (λ (r : HighwayRow). record { class = r.class; modes = word_of (is_listed r.modes) }) row → ((f : Mode → Bool) → road.modes ≡ word_of f → modes ≡ word_of (λ mode. decision tags (keys_of mode) (f mode))) → modes ≡ word_of (λ mode. option_map_or (is_open_by tags mode) row false)
 open_by_row tags None road modes e h = absurd (cc)
 open_by_row tags (Some row) road modes e h = h (is_listed row.modes) (ap (λ (r : Road). r.modes) (same_Some road (record { class = row.class; modes = word_of (is_listed row.modes) }) e))
 
 -- a barrier is passed as its value's default and its tags say
-pub passed_by_value : (tags : List Tag) (value : List ℕ) (modes : ℕ) → value_of (codes "barrier") tags ≡ Some value → bytes_eq value (codes "no") ≡ false → modes ≡ word_of (λ mode. decided tags (keys_of mode) (is_listed (barrier_modes value) mode)) → modes ≡ node_modes tags
+pub passed_by_value : (tags : List Tag) (value : List ℕ) (modes : ℕ) → value_of (codes "barrier") tags ≡ Some value → bytes_eq value (codes "no") ≡ false → modes ≡ word_of (λ mode. decision tags (keys_of mode) (is_listed (barrier_modes value) mode)) → modes ≡ node_modes tags
 passed_by_value tags value modes there other e =
     e ∙ ap (λ b. word_of (λ mode. cond (not b) (passes_barrier tags mode value) true)) (sym other)
     ∙ ap (λ o. word_of (λ mode. cond (option_map_or (λ v. not (bytes_eq v (codes "no"))) o false) (option_map_or (passes_barrier tags mode) o true) true)) (sym there)

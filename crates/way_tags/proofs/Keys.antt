@@ -1,7 +1,7 @@
 -- The number of a key: a known key is the one that its length and one byte tell.
-use Rattle.std.proofs.Common.{◌≡◌, ℕ, ◌<◌, Bool, true, false, eqb, refl, sym, subst, ap, ◌∙◌, List, inl, inr, arith}
+use Rattle.std.proofs.Common.{◌≡◌, ℕ, ◌<◌, true, false, eqb, refl, sym, subst, ap, ◌∙◌, List, inl, inr, arith}
 use Rattle.std.specs.Str.{bytes_eq}
-use Rattle.std.proofs.lemmas.Bool.{agree_below_at, eqb-true, eqb-false, eq-eqb, ne_eqb, false_from_ne_true, both_ways, cases_eq}
+use Rattle.std.proofs.lemmas.Bool.{agree_below_at, eqb-true, eq-eqb, ne_eqb, false_from_ne_true, both_ways, cases_eq}
 use Rattle.std.proofs.lemmas.Slice.Eq.{bytes_eq-Decides}
 use Rattle.way_tags.specs.KnownKeys.{known_key, likely_number}
 

@@ -2,4 +2,5 @@ pub mod Words
 pub mod Keys
 pub mod PlaceLemmas
 pub mod Deciding
+pub mod OpenNodes
 mod WorkedRows

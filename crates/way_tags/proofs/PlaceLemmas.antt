@@ -1,9 +1,9 @@
 -- The places of the known keys, from one tag to the tag before it.
-use Rattle.std.proofs.Common.{◌≡◌, ℕ, ◌+◌, ◌<◌, ◌≤◌, suc, Bool, true, false, cond, eqb, refl, sym, subst, ap, ◌∙◌, List, [], ◌∷◌, length, get_or, set, drop, replicate, arith, inl, inr, get_or-set_same, get_or-set_other, add-one}
-use Rattle.std.specs.Prelude.{Some, None, option_map, slice_get}
+use Rattle.std.proofs.Common.{◌≡◌, ℕ, ◌+◌, ◌<◌, suc, cond, eqb, sym, subst, ap, ◌∙◌, List, ◌∷◌, length, get_or, set, drop, arith, inl, inr, get_or-set_same, get_or-set_other, add-one}
+use Rattle.std.specs.Prelude.{Some, option_map, slice_get}
 use Rattle.std.specs.Str.{bytes_eq}
 use Rattle.std.proofs.Math.Seq.{drop-cons, drop-length}
-use Rattle.std.proofs.lemmas.Bool.{cases_eq, eq-eqb, ne_eqb, cond-true, cond-false, agree_below_at, eqb-true}
+use Rattle.std.proofs.lemmas.Bool.{cases_eq, eq-eqb, ne_eqb, cond-true, cond-false}
 use Rattle.std.proofs.lemmas.Option.{slice_get-get_or, slice_get_past}
 use Rattle.osm_model.specs.declared.tags.Tag.{Tag}
 use Rattle.osm_model.specs.Tags.{value_of}

@@ -1,8 +1,8 @@
 -- Sets of modes as numbers: what holds of the modes one by one holds of the bits, tried at each set.
-use Rattle.std.proofs.Common.{◌≡◌, ◌≢◌, ◌↔◌, ℕ, ◌+◌, ◌<◌, lit<, arith, Bool, true, false, not, ◌&&◌, ◌||◌, cond, eqb, refl, sym, subst, ap, ◌∙◌}
-use Rattle.std.specs.Prelude.{bit_and, bit_or, bit_xor, unwrap_or, Option, Some, None, IsTrue}
+use Rattle.std.proofs.Common.{◌≡◌, ◌≢◌, ◌↔◌, ℕ, ◌+◌, ◌<◌, lit<, arith, Bool, true, false, not, ◌&&◌, cond, eqb, refl, sym, ap, ◌∙◌}
+use Rattle.std.specs.Prelude.{bit_and, bit_or, bit_xor, unwrap_or, Option, Some, None}
 use Rattle.std.proofs.lemmas.Bool.{and_parts, eqb-true, both_ways}
-use Rattle.way_tags.specs.Modes.{Mode, auto, pedestrian, bicycle, truck, bus, bit_of, word_of, HasMode}
+use Rattle.way_tags.specs.Modes.{Mode, auto, pedestrian, bicycle, truck, bus, word_of, HasMode}
 
 -- a test passes at both truth values
 abbrev at_both : (Bool → Bool) → Bool

@@ -1,7 +1,7 @@
 -- The definitions, computed on small lists of tags whose answers were read off the tables by hand.
 use Prim.Native.String.{String}
 use Rattle.std.proofs.Common.{◌≡◌, ℕ, List, [], ◌∷◌, map, refl}
-use Rattle.std.specs.Prelude.{codes, Option, Some, None, Bool, true, false}
+use Rattle.std.specs.Prelude.{codes, Option, Some, None, true, false}
 use Rattle.osm_model.specs.declared.tags.Tag.{Tag}
 use Rattle.way_tags.specs.declared.directions.Dir.TheVariants as dirs
 use Rattle.way_tags.specs.declared.directions.Oneway.{Oneway}

@@ -14,17 +14,17 @@ keys_of bus = codes "bus" ∷ codes "psv" ∷ codes "motor_vehicle" ∷ codes "v
 keys_of bicycle = codes "bicycle" ∷ codes "vehicle" ∷ codes "access" ∷ []
 keys_of pedestrian = codes "foot" ∷ codes "access" ∷ []
 
-abbrev pub permitting : List (List ℕ)
-permitting =
+abbrev pub permitting_values : List (List ℕ)
+permitting_values =
     codes "yes" ∷ codes "designated" ∷ codes "permissive" ∷ codes "destination" ∷ codes "customers" ∷ codes "delivery" ∷ codes "official" ∷ codes "public" ∷ []
 
-abbrev pub refusing : List (List ℕ)
-refusing =
+abbrev pub refusing_values : List (List ℕ)
+refusing_values =
     codes "no" ∷ codes "private" ∷ codes "agricultural" ∷ codes "forestry" ∷ codes "use_sidepath" ∷ codes "dismount" ∷ []
 
 -- what a value says: that the mode may, that it may not, or nothing where it isn't known
 abbrev pub meaning : List ℕ → Option Bool
-meaning value = if is_among refusing value then Some false else if is_among permitting value then Some true else None
+meaning value = if is_among refusing_values value then Some false else if is_among permitting_values value then Some true else None
 
 -- `access` with a value that permits is passed over
 abbrev pub without_leave : Option Bool → Option Bool
@@ -37,6 +37,6 @@ abbrev pub meaning_at : List ℕ → List ℕ → Option Bool
 meaning_at key value = if bytes_eq key (codes "access") then without_leave (meaning value) else meaning value
 
 -- The first key that is there with a known value decides whether a mode may. Where none does, the default stands.
-abbrev pub decided : List Tag → List (List ℕ) → Bool → Bool
-decided tags [] default = default
-decided tags (key ∷ keys) default = unwrap_or (option_and_then (meaning_at key) (value_of key tags)) (decided tags keys default)
+abbrev pub decision : List Tag → List (List ℕ) → Bool → Bool
+decision tags [] default = default
+decision tags (key ∷ keys) default = unwrap_or (option_and_then (meaning_at key) (value_of key tags)) (decision tags keys default)

@@ -1,6 +1,6 @@
 -- Computing helpers of the pass over the tags of an object: the keys that are known, by number. No public
 -- clause speaks of them.
-use Rattle.std.specs.Prelude.{◌≡◌, ℕ, ◌<◌, ◌==◌, List, [], ◌∷◌, Option, codes, length, drop, option_map, slice_get, slice_index, slice_index_or, if◌then◌else◌}
+use Rattle.std.specs.Prelude.{◌≡◌, ℕ, ◌<◌, ◌==◌, List, [], ◌∷◌, codes, length, drop, option_map, slice_get, slice_index, slice_index_or, if◌then◌else◌}
 use Rattle.osm_model.specs.declared.tags.Tag.{Tag}
 use Rattle.osm_model.specs.Tags.{value_of}
 use Rattle.way_tags.specs.declared.known_keys.TheConstants.{HIGHWAY, AREA, ONEWAY, JUNCTION, ONEWAY_BICYCLE, ONEWAY_BUS, ONEWAY_PSV, BARRIER, ACCESS, VEHICLE, MOTOR_VEHICLE, MOTORCAR, HGV, PSV, BUS_KEY, BICYCLE_KEY, FOOT, NAME, REF, KEY_COUNT}

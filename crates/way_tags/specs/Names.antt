@@ -6,11 +6,11 @@ use Rattle.osm_model.specs.declared.tags.Tag.{Tag}
 use Rattle.osm_model.specs.Tags.{value_of}
 
 -- a value that is there and isn't empty
-abbrev pub shown : Option (List ℕ) → List (List ℕ)
-shown None = []
-shown (Some []) = []
-shown (Some (byte ∷ bytes)) = (byte ∷ bytes) ∷ []
+abbrev pub shown_text : Option (List ℕ) → List (List ℕ)
+shown_text None = []
+shown_text (Some []) = []
+shown_text (Some (byte ∷ bytes)) = (byte ∷ bytes) ∷ []
 
 -- the value of `name`, then that of `ref`, each where it is shown, and the same text once
 abbrev pub road_names : List Tag → List (List ℕ)
-road_names tags = dedup bytes_eq (shown (value_of (codes "name") tags) ++ shown (value_of (codes "ref") tags))
+road_names tags = dedup bytes_eq (shown_text (value_of (codes "name") tags) ++ shown_text (value_of (codes "ref") tags))

@@ -6,7 +6,7 @@ use Rattle.osm_model.specs.declared.tags.Tag.{Tag}
 use Rattle.osm_model.specs.Tags.{value_of}
 use Rattle.way_tags.specs.Modes.{Mode, pedestrian, bicycle, bus, all_modes, is_listed, word_of}
 use Rattle.way_tags.specs.Values.{is_among}
-use Rattle.way_tags.specs.Access.{keys_of, decided}
+use Rattle.way_tags.specs.Access.{keys_of, decision}
 
 -- whether a node is a barrier: it has the key `barrier`, with a value other than `no`
 abbrev pub is_barrier_node : List Tag → Bool
@@ -31,7 +31,7 @@ barrier_modes value = option_map_or (λ row. row.modes) (find (λ row. is_among 
 
 -- whether a mode may pass a barrier with that value
 abbrev pub passes_barrier : List Tag → Mode → List ℕ → Bool
-passes_barrier tags mode value = decided tags (keys_of mode) (is_listed (barrier_modes value) mode)
+passes_barrier tags mode value = decision tags (keys_of mode) (is_listed (barrier_modes value) mode)
 
 -- whether a mode may pass a node: each may where it is no barrier
 abbrev pub is_passed : List Tag → Mode → Bool

@@ -7,7 +7,7 @@ use Rattle.way_tags.specs.declared.directions.Dir.TheVariants as dirs
 use Rattle.way_tags.specs.declared.directions.Oneway.{Oneway}
 use Rattle.way_tags.specs.declared.directions.Oneway.TheVariants as ways
 use Rattle.way_tags.specs.Modes.{Mode, auto, pedestrian, bicycle, truck, bus}
-use Rattle.way_tags.specs.Values.{says_one_of}
+use Rattle.way_tags.specs.Values.{has_value_among}
 
 -- a line of the table: where the key has one of the values, this is the answer
 pub record OnewayRow : Type 0 where
@@ -26,7 +26,7 @@ oneways =
 
 -- the first line that holds decides, and otherwise the way is used in both directions
 abbrev pub oneway_by_tags : List Tag → Oneway
-oneway_by_tags tags = option_map_or (λ row. row.answer) (find (λ row. says_one_of tags row.key row.values) oneways) ways.Both
+oneway_by_tags tags = option_map_or (λ row. row.answer) (find (λ row. has_value_among tags row.key row.values) oneways) ways.Both
 
 -- whether a way is used in a direction
 abbrev pub is_along : Oneway → Dir → Bool
@@ -41,5 +41,5 @@ abbrev pub is_exempt : List Tag → Mode → Bool
 is_exempt tags auto = false
 is_exempt tags truck = false
 is_exempt tags pedestrian = true
-is_exempt tags bicycle = says_one_of tags (codes "oneway:bicycle") (codes "no" ∷ [])
-is_exempt tags bus = says_one_of tags (codes "oneway:bus") (codes "no" ∷ []) || says_one_of tags (codes "oneway:psv") (codes "no" ∷ [])
+is_exempt tags bicycle = has_value_among tags (codes "oneway:bicycle") (codes "no" ∷ [])
+is_exempt tags bus = has_value_among tags (codes "oneway:bus") (codes "no" ∷ []) || has_value_among tags (codes "oneway:psv") (codes "no" ∷ [])

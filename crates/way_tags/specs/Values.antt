@@ -11,5 +11,5 @@ abbrev pub is_among : List (List ℕ) → List ℕ → Bool
 is_among values value = list_any (λ other. bytes_eq value other) values
 
 -- whether the key is there and its value is one of a list
-abbrev pub says_one_of : List Tag → List ℕ → List (List ℕ) → Bool
-says_one_of tags key values = option_map_or (is_among values) (value_of key tags) false
+abbrev pub has_value_among : List Tag → List ℕ → List (List ℕ) → Bool
+has_value_among tags key values = option_map_or (is_among values) (value_of key tags) false

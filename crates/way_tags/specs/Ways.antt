@@ -1,19 +1,19 @@
 -- What the tags of a way say: whether it is a road, of which class, and who may use it in which direction.
-use Rattle.std.specs.Prelude.{◌≡◌, ℕ, Bool, true, false, ◌&&◌, ◌||◌, ◌⊎◌, List, [], ◌∷◌, Option, None, codes, option_map, option_and_then, if◌then◌else◌, IsSome, IsTrue}
+use Rattle.std.specs.Prelude.{ℕ, Bool, false, ◌&&◌, ◌||◌, ◌⊎◌, List, [], ◌∷◌, Option, None, codes, option_map, option_and_then, if◌then◌else◌, IsTrue}
 use Rattle.std.specs.Option.{option_map_or}
 use Rattle.osm_model.specs.declared.tags.Tag.{Tag}
 use Rattle.osm_model.specs.Tags.{value_of}
 use Rattle.way_tags.specs.declared.directions.Dir.{Dir}
 use Rattle.way_tags.specs.Modes.{Mode, is_listed, word_of}
-use Rattle.way_tags.specs.Values.{says_one_of}
+use Rattle.way_tags.specs.Values.{has_value_among}
 use Rattle.way_tags.specs.Highways.{HighwayRow, highway_row}
-use Rattle.way_tags.specs.Access.{keys_of, decided}
+use Rattle.way_tags.specs.Access.{keys_of, decision}
 use Rattle.way_tags.specs.Oneways.{oneway_by_tags, is_along, is_exempt}
 
 -- the line of the table for a way: none where `highway` isn't there or has another value, or for an area
 abbrev pub road_row : List Tag → Option HighwayRow
 road_row tags =
-    if says_one_of tags (codes "area") (codes "yes" ∷ []) then None else option_and_then highway_row (value_of (codes "highway") tags)
+    if has_value_among tags (codes "area") (codes "yes" ∷ []) then None else option_and_then highway_row (value_of (codes "highway") tags)
 
 -- the class of a road, from 0, motorway, to 7; a way without one is no road
 abbrev pub road_class : List Tag → Option ℕ
@@ -21,7 +21,7 @@ road_class tags = option_map (λ row. row.class) (road_row tags)
 
 -- whether a mode may use a road with that row by its tags of access
 abbrev pub is_open_by : List Tag → Mode → HighwayRow → Bool
-is_open_by tags mode row = decided tags (keys_of mode) (is_listed row.modes mode)
+is_open_by tags mode row = decision tags (keys_of mode) (is_listed row.modes mode)
 
 -- whether it is a road, and its tags of access permit the mode
 abbrev pub is_open : List Tag → Mode → Bool

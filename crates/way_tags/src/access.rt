@@ -3,7 +3,7 @@
 ghost use Rattle.std.specs.Prelude.{◌≡◌, ◌<◌, Bool, option_and_then};
 ghost use Rattle.osm_model.specs.Tags.{value_of};
 ghost use Rattle.way_tags.specs.Modes.{Mode, word_of};
-ghost use Rattle.way_tags.specs.Access.{decided, keys_of, meaning, without_leave};
+ghost use Rattle.way_tags.specs.Access.{decision, keys_of, meaning, without_leave};
 ghost use Rattle.way_tags.specs.KnownKeys.{ArePlaces, known_key};
 
 use crate::found::{Places, value_at};
@@ -19,7 +19,7 @@ use osm_model::TagsView;
 /// a mode to that which is tried first.
 pub(crate) fn decided_modes(tags: &TagsView<'_>, places: &Places, default: u16) -> u16
     requires { ArePlaces tags.now 0 places.now }
-    ensures { (f : Mode → Bool) → default ≡ word_of f → result ≡ word_of (λ mode. decided tags.now (keys_of mode) (f mode)) }
+    ensures { (f : Mode → Bool) → default ≡ word_of f → result ≡ word_of (λ mode. decision tags.now (keys_of mode) (f mode)) }
 {
     let refused = refusal(verdict(tags, places, ACCESS));
     let word = overridden(default, ALL, refused);

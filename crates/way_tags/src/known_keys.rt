@@ -1,6 +1,6 @@
 //! The keys that are known, by number.
 
-ghost use Rattle.std.specs.Prelude.{◌≡◌, ◌<◌, ◌+◌, ℕ, ◌==◌};
+ghost use Rattle.std.specs.Prelude.{◌≡◌, ◌<◌, ℕ, ◌==◌};
 ghost use Rattle.std.specs.Str.{bytes_eq};
 ghost use Rattle.way_tags.specs.KnownKeys.{known_key, likely_number};
 

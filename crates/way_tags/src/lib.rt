@@ -7,12 +7,14 @@ mod directions;
 mod found;
 mod highways;
 mod known_keys;
+mod law;
 mod modes;
 mod naming;
 mod nodes;
 mod ways;
 
 pub use directions::{Dir, Oneway};
+pub use law::open_node_law;
 pub use modes::{ALL, AUTO, BICYCLE, BUS, PEDESTRIAN, TRUCK, VEHICLES};
 pub use naming::names;
 pub use nodes::{is_barrier, node_access};

@@ -1,8 +1,7 @@
 //! How a way is named.
 
-ghost use Rattle.std.specs.Prelude.{◌≡◌, ◌++◌, IfOk, codes};
-ghost use Rattle.osm_model.specs.Tags.{value_of};
-ghost use Rattle.way_tags.specs.Names.{road_names, shown};
+ghost use Rattle.std.specs.Prelude.{◌≡◌, IfOk};
+ghost use Rattle.way_tags.specs.Names.{road_names};
 
 use crate::found::{places_of, value_at};
 use crate::known_keys::{NAME, REF};

@@ -1,10 +1,9 @@
 //! What the tags of a way say.
 
-ghost use Rattle.std.specs.Prelude.{◌≡◌, ◌<◌, ◌↔◌, ◌||◌, IsTrue, option_map, bit_and, [], ◌∷◌, codes, if◌then◌else◌};
+ghost use Rattle.std.specs.Prelude.{◌≡◌, ◌<◌, ◌↔◌, ◌||◌, option_map, bit_and, [], ◌∷◌, codes, if◌then◌else◌};
 ghost use Rattle.way_tags.specs.declared.directions.Oneway.TheVariants as ways;
-ghost use Rattle.osm_model.specs.Tags.{value_of};
 ghost use Rattle.way_tags.specs.Modes.{Mode, HasMode, word_of, is_listed};
-ghost use Rattle.way_tags.specs.Values.{says_one_of};
+ghost use Rattle.way_tags.specs.Values.{has_value_among};
 ghost use Rattle.way_tags.specs.Oneways.{oneway_by_tags, is_along, is_exempt};
 ghost use Rattle.way_tags.specs.Ways.{road_row, road_class, road_access, Permits, is_open};
 ghost use Rattle.way_tags.specs.KnownKeys.{ArePlaces, known_key};
@@ -100,7 +99,7 @@ fn oneway(tags: &TagsView<'_>, places: &Places) -> Oneway
 /// In which directions a way is used of which the key `oneway` says nothing.
 fn oneway_otherwise(tags: &TagsView<'_>, places: &Places) -> Oneway
     requires { ArePlaces tags.now 0 places.now }
-    ensures { result ≡ (if says_one_of tags.now (codes "junction") (codes "roundabout" ∷ codes "circular" ∷ []) then ways.Forward else if says_one_of tags.now (codes "highway") (codes "motorway" ∷ []) then ways.Forward else ways.Both) }
+    ensures { result ≡ (if has_value_among tags.now (codes "junction") (codes "roundabout" ∷ codes "circular" ∷ []) then ways.Forward else if has_value_among tags.now (codes "highway") (codes "motorway" ∷ []) then ways.Forward else ways.Both) }
 {
     if says(tags, places, JUNCTION, "roundabout")
         || says(tags, places, JUNCTION, "circular")
@@ -145,7 +144,7 @@ fn exempt_modes(tags: &TagsView<'_>, places: &Places) -> u16
 fn says(tags: &TagsView<'_>, places: &Places, number: usize, value: &str) -> bool
     requires places { ArePlaces tags.now 0 places.now }
     requires known { number < KEY_COUNT }
-    ensures { result ≡ says_one_of tags.now (known_key number) (value.now ∷ []) }
+    ensures { result ≡ has_value_among tags.now (known_key number) (value.now ∷ []) }
 {
     match value_at(tags, places, number) {
         Some(found) => found == value,

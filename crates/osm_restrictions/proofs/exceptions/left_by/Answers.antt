@@ -1,4 +1,4 @@
-use Rattle.std.proofs.Common.{rules, ℕ, List}
+use Rattle.std.proofs.Common.{rules}
 use Rattle.std.specs.Prelude.{bit_and, bit_xor, ◌==◌}
 use Rattle.std.proofs.lemmas.Iterator.Consumers.{fold_from_yields_List}
 use Rattle.std.proofs.lemmas.Iterator.Splits.{YieldsList-from_slice_split}

@@ -1,4 +1,4 @@
-use Rattle.std.proofs.Common.{◌≡◌, ap, ◌∙◌, not, false, ◌&&◌, List, ℕ}
+use Rattle.std.proofs.Common.{ap, ◌∙◌, not, false, ◌&&◌, List, ℕ}
 use Rattle.std.specs.Prelude.{bit_and, bit_xor, fold, ◌==◌, Option}
 use Rattle.std.specs.List.{slice_split}
 use Rattle.std.specs.Option.{option_map_or}

@@ -1,4 +1,4 @@
-use Rattle.std.proofs.Common.{◌≡◌, ap, ◌∙◌, sym, false, subst}
+use Rattle.std.proofs.Common.{ap, ◌∙◌, sym}
 use Rattle.osm_restrictions.specs.Keys.{deciding_value, is_conditional}
 use Rattle.osm_restrictions.proofs.KindLemmas.{turn_of_known}
 use Rattle.osm_restrictions.proofs.turn.turn_of.Goals as goal

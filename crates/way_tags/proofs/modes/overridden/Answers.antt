@@ -1,5 +1,3 @@
-use Rattle.std.proofs.Common.{sym, ap}
-use Rattle.std.specs.Prelude.{Some}
 use Rattle.way_tags.proofs.Words.{overridden_permitted, overridden_refused}
 use Rattle.way_tags.proofs.modes.overridden.Goals as goal
 

@@ -1,10 +1,10 @@
-use Rattle.std.proofs.Common.{◌≡◌, ◌↔◌, true, subst, sym, refl, ap, ◌∙◌}
+use Rattle.std.proofs.Common.{◌≡◌, ◌↔◌, true, subst, sym}
 use Rattle.std.specs.Prelude.{bit_and, codes}
 use Rattle.std.specs.Str.{bytes_eq}
 use Rattle.std.proofs.lemmas.Bool.{false_from_ne_true}
 use Rattle.std.proofs.lemmas.Slice.Eq.{bytes_eq-Decides}
-use Rattle.way_tags.specs.Modes.{HasMode, word_of, is_listed}
-use Rattle.way_tags.specs.Nodes.{node_modes, is_passed, barrier_modes}
+use Rattle.way_tags.specs.Modes.{HasMode, is_listed}
+use Rattle.way_tags.specs.Nodes.{is_passed, barrier_modes}
 use Rattle.way_tags.proofs.Words.{within_all, has_mode}
 use Rattle.way_tags.proofs.Deciding.{passed_by_value}
 use Rattle.way_tags.proofs.nodes.node_access.Goals as goal

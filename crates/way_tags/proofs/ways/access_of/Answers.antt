@@ -1,8 +1,8 @@
-use Rattle.std.proofs.Common.{◌≡◌, ◌↔◌, Bool, true, subst, sym, ap, ◌∙◌, ◌||◌}
+use Rattle.std.proofs.Common.{◌≡◌, ◌↔◌, true, subst, sym, ap, ◌∙◌, ◌||◌}
 use Rattle.std.specs.Prelude.{bit_and}
-use Rattle.way_tags.specs.Modes.{Mode, HasMode, word_of}
+use Rattle.way_tags.specs.Modes.{HasMode, word_of}
 use Rattle.way_tags.specs.Oneways.{oneway_by_tags, is_along, is_exempt}
-use Rattle.way_tags.specs.Ways.{is_open, is_permitted, road_access, Permits}
+use Rattle.way_tags.specs.Ways.{is_open, is_permitted, Permits}
 use Rattle.way_tags.proofs.Words.{both_words, within_all, has_mode}
 use Rattle.way_tags.proofs.Deciding.{permits_tested}
 use Rattle.way_tags.proofs.ways.access_of.Goals as goal
