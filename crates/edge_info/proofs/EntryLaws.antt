@@ -90,11 +90,11 @@ entry_again end count before x rest good =
     let e2 = counted_again bad 0 (name_at bad count) half_bytes (NameGood count) (name_section bad count) x.texts rest (omega arith) good.few_names (of_all (λ name. (name < count) × (name < 2 ^ 32)) [] x.texts good.names) in
     chained end count before bytes x (points ++ (names ++ rest)) (names ++ rest) rest e0 e1 e2
 
-entry_reader : (end count : ℕ) → IsReader (entry_at end count) info_bytes (InfoGood count)
+pub entry_reader : (end count : ℕ) → IsReader (entry_at end count) info_bytes (InfoGood count)
 entry_reader end count = record { takes = entry_takes end count; again = entry_again end count }
 
 -- an entry has bytes
-entry_some : (x : Info) → 0 < length (info_bytes x)
+pub entry_some : (x : Info) → 0 < length (info_bytes x)
 unfolding info_bytes key_bytes
 entry_some x =
     let way = word_bytes (cast_unsigned w64 x.key.way) in

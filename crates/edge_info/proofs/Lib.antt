@@ -8,3 +8,5 @@ mod Noted
 mod TextLaws
 mod InfoLaws
 mod StartLaws
+mod Failing
+mod EntryFailing

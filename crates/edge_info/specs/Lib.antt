@@ -5,3 +5,4 @@ pub mod Texts
 pub mod TextReading
 pub mod TextLoops
 pub mod InfoSets
+pub mod Checks

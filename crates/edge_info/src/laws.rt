@@ -1,7 +1,9 @@
 //! What is read was written so, and what was written is read again.
-ghost use Rattle.std.specs.Prelude.{◌≡◌, ◌+◌, ◌<◌, ◌≤◌, ◌^◌, ℕ, List, Ok, length, All, replicate, slice_index};
+ghost use Rattle.std.specs.Prelude.{◌≡◌, ◌+◌, ◌-◌, ◌<◌, ◌≤◌, ◌^◌, ℕ, List, Ok, Err, length, All, replicate, slice_index};
 ghost use Rattle.section_grammar.specs.WordBytes.{IsByteList};
+ghost use Rattle.section_grammar.specs.Answers.{FailedCheck, Check};
 ghost use Rattle.edge_info.specs.declared.infos.Info.{Info};
+ghost use Rattle.edge_info.specs.Checks.{EntryFails};
 ghost use Rattle.edge_info.specs.Entries.{AreInfos, infos_bytes, IsSized, starts_of};
 ghost use Rattle.edge_info.specs.declared.infos.InfoSet.{InfoSet};
 ghost use Rattle.edge_info.specs.InfoSets.{gap, padding_at, info_set_at, SpellsInfos};
@@ -16,6 +18,11 @@ pub fn entries_law()
     ensures spelled { (end count : ℕ) (infos : List Info) → AreInfos count infos
         → entries_at end count (infos_bytes infos) ≡ Ok infos }
     ensures sized { (count : ℕ) (infos : List Info) → AreInfos count infos → All IsSized infos }
+    ensures fails { (end count : ℕ) (section : List ℕ) (failure : FailedCheck) → IsByteList section
+        → entries_at end count section ≡ Err failure
+        → (at : ℕ) × EntryFails count section at × (failure ≡ Check 13 (end - (length section - at))) }
+    ensures first { (end count : ℕ) (section : List ℕ) (at : ℕ) → IsByteList section → EntryFails count section at
+        → entries_at end count section ≡ Err (Check 13 (end - (length section - at))) }
 {}
 
 /// Texts that are read are those of the entries' names and were spelled so; such texts are read again from their bytes.

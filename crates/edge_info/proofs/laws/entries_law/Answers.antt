@@ -1,4 +1,5 @@
 use Rattle.edge_info.proofs.EntryLaws.{entries_found, entries_again, infos_sized}
+use Rattle.edge_info.proofs.EntryFailing.{entries_fail, entries_fail_again}
 use Rattle.edge_info.proofs.laws.entries_law.Goals as goal
 
 pub returns-clause-found : goal.returns-clause-found
@@ -9,3 +10,9 @@ returns-clause-spelled c = λ end count infos good. entries_again end count info
 
 pub returns-clause-sized : goal.returns-clause-sized
 returns-clause-sized c = λ count infos good. infos_sized count infos good
+
+pub returns-clause-fails : goal.returns-clause-fails
+returns-clause-fails c = λ end count section failure fits e. entries_fail end count section failure fits e
+
+pub returns-clause-first : goal.returns-clause-first
+returns-clause-first c = λ end count section at fits f. entries_fail_again end count section at fits f
