@@ -13,7 +13,7 @@ returns-clause-line c =
     let same : read ≡ piece = λ i. record piece { key = c.key.ensures i; start = c.start.ensures i; end = c.end.ensures i; cm = c.cm.ensures i } in
     let start : FitsSigned w64 c.start.result = search rules in
     let end : FitsSigned w64 c.end.result = search rules in
-    let line = rw (to_z-of_z w64 c.start.result start, to_z-of_z w64 c.end.result end) at c.write_piece.ensures in
+    let line = simp (to_z-of_z w64 c.start.result start, to_z-of_z w64 c.end.result end) at c.write_piece.ensures in
     subst (λ p. OnOk c.write_piece.result (string_bytes c.write_piece.new.text ≡ string_bytes c.args.text.now ++ piece_line p)) same line
 
 pub returns-clause-told : goal.returns-clause-told
