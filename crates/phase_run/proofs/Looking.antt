@@ -6,7 +6,6 @@ use Rattle.std.proofs.Math.ListN.{get_elem?}
 use mathlib.Core.Option.{some}
 use Rattle.tile_machine.specs.At.{At}
 use Rattle.tile_machine.specs.declared.phase.Phase.{Ghosts}
-use Rattle.tile_machine.specs.Bridges.{at-map}
 use Rattle.tile_table.specs.declared.view.View.{View}
 use Rattle.tile_table.specs.declared.view.Hand.TheVariants.{Empty}
 use Rattle.tile_table.specs.declared.seat.Seat.{Seat}
@@ -17,7 +16,7 @@ use Rattle.tile_table.specs.Calls.{TurnHad, TurnMissed, TurnHadOnce, PartSeen}
 use Rattle.tile_table.specs.Seats.{view, seat_name, turn_place, turn_tile, turn_marked}
 use Rattle.phase_run.specs.Tries.{GainedTries}
 use Rattle.phase_run.specs.Looks.{IsAlone, Unchanged, Loses, TookOne, TurnGot, Looked, Shown}
-use Rattle.phase_run.specs.Stays.{unchanged-same, unchanged-on, loses-on}
+use Rattle.phase_run.specs.Stays.{unchanged-same, unchanged-on}
 
 -- no try yet
 pub no-tries : (j holder : ℕ) (xs : List (ℕ × ℕ)) → GainedTries j holder 0 xs xs

@@ -1,5 +1,5 @@
 -- what stays while a worker looks at the tiles of others: the laws that its parts owe
-use Rattle.std.specs.Prelude.{◌≡◌, ◌≤◌, true, List, length, map, refl}
+use Rattle.std.specs.Prelude.{◌≡◌, true, List, length, map, refl}
 use Rattle.std.proofs.Common.{◌∙◌, ap, sym}
 use Rattle.std.proofs.lemmas.List.{length-map}
 use Rattle.std.proofs.Math.Nat.{le_refl, le_trans}

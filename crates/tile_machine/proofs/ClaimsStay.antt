@@ -1,5 +1,5 @@
 -- a claim, once there, stays
-use Rattle.std.proofs.Common.{◌≡◌, ℕ, ◌<◌, ◌≢◌, Option, Some, None, Result, Ok, Err, IfOk, List, [], ◌∷◌, refl, sym, ap, ◌∙◌, subst, true, false, not, ◌&&◌, nat_lt}
+use Rattle.std.proofs.Common.{◌≡◌, ℕ, Some, None, Ok, Err, IfOk, List, [], ◌∷◌, sym, ap, ◌∙◌, subst, true, false, not, ◌&&◌, nat_lt}
 use Rattle.std.specs.Prelude.{option_and_then, slice_get}
 use Rattle.std.proofs.lemmas.Option.{slice_get_within, none-some}
 use mathlib.Core.Logic.{dite}
@@ -8,7 +8,7 @@ use Rattle.tile_machine.specs.declared.state.Cell.{Cell}
 use Rattle.tile_machine.specs.declared.event.Event.{Event}
 use Rattle.tile_machine.specs.declared.event.Event.TheVariants.{Claim, Take, BringOut, Mark, PutBack, Free, Split, Join}
 use Rattle.tile_machine.specs.State.{State, cell_of, worker_of, with_cell}
-use Rattle.tile_machine.specs.Next.{Answer, next, names, if_next, after, leads}
+use Rattle.tile_machine.specs.Next.{Answer, next, names, if_next, after}
 use Rattle.tile_machine.specs.Good.{claimant_of, ClaimStays}
 use Rattle.tile_machine.proofs.Guards.{past_given, past_unless, past_provided}
 use Rattle.tile_machine.proofs.Lists.{get-set_same, get-set_other}

@@ -1,5 +1,5 @@
 -- the state of the machine that a table of tiles shows
-use Rattle.std.specs.Prelude.{◌≡◌, ℕ, zero, suc, ◌+◌, ◌-◌, ◌*◌, ◌<◌, ◌≢◌, ◌++◌, slice_set, Ok, Err, Option, Some, None, Bool, true, false, ◌&&◌, ◌||◌, List, [], ◌∷◌, length, map, replicate, ◌==◌, nat_lt, if◌then◌else◌}
+use Rattle.std.specs.Prelude.{◌≡◌, ℕ, zero, suc, ◌+◌, ◌-◌, ◌*◌, ◌<◌, ◌≢◌, ◌++◌, slice_set, Ok, Err, Option, Some, None, Bool, ◌&&◌, ◌||◌, List, [], ◌∷◌, length, map, replicate, ◌==◌, nat_lt, if◌then◌else◌}
 use Rattle.tile_machine.specs.State.{State, ranging, start}
 use Rattle.tile_machine.specs.declared.state.Cell.{Cell}
 use Rattle.tile_machine.specs.declared.state.Worker.{Worker}

@@ -1,6 +1,6 @@
 use Rattle.std.proofs.Common.{◌∙◌, refl}
 use Rattle.tile_table.specs.Seats.{view}
-use Rattle.phase_run.proofs.Looking.{begins-trying, tries-again, reads-part}
+use Rattle.phase_run.proofs.Looking.{begins-trying, tries-again}
 use Rattle.phase_run.proofs.seat_parts.part_of.Goals as goal
 
 pub loop-tried-init : goal.loop-tried-init

@@ -1,4 +1,3 @@
-use Rattle.std.proofs.Common.{arith}
 use Rattle.tile_table.specs.Seats.{view}
 use Rattle.phase_run.specs.Stays.{loses-before}
 use Rattle.phase_run.proofs.Working.{worked-on, alone-worked, last-waits, rest-waits, finishes-one}

@@ -1,5 +1,4 @@
 use Rattle.std.proofs.Common.{◌+◌, ◌/◌, sym, ◌∙◌}
-use Rattle.tile_table.specs.Seats.{view}
 use Rattle.phase_run.proofs.Working.{both-went}
 use Rattle.phase_run.proofs.workers.+runs.Goals.{then-low, else-low}
 use Rattle.phase_run.proofs.workers.+runs.Goals as goal

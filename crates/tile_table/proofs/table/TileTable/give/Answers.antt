@@ -1,9 +1,8 @@
-use Rattle.std.proofs.Common.{◌≡◌, [], ◌∷◌, length, ap, sym, ◌∙◌, arith}
+use Rattle.std.proofs.Common.{◌≡◌, ◌∷◌, ap, sym, ◌∙◌, arith}
 use Rattle.std.specs.Prelude.{Some, None}
 use Rattle.atomic_table.specs.Table.{rest}
-use Rattle.tile_table.specs.Views.{with_no_hand}
 use Rattle.tile_table.proofs.Moves.{frees}
-use Rattle.tile_table.proofs.Told.{only-out, fits-none}
+use Rattle.tile_table.proofs.Told.{only-out}
 use Rattle.tile_table.proofs.table.TileTable.give.Goals as goal
 
 pub exchange-requires : goal.exchange-requires
