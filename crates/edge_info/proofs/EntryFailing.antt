@@ -34,8 +34,8 @@ unfolding entry_at
 entry_says end count before rest =
     let bad = bad_entry end rest in
     only_bind bad (key_at bad before rest) (λ key. counted_at bad 2 (point_at bad) key.1 >>= λ points. counted_at bad 0 (name_at bad count) points.1 >>= λ names. Ok (record { key = key.0; shape = points.0; texts = names.0 }, names.1)) (key_says bad before rest)
-      (λ key. only_bind bad (counted_at bad 2 (point_at bad) key.1) (λ points. counted_at bad 0 (name_at bad count) points.1 >>= λ names. Ok (record { key = key.0; shape = points.0; texts = names.0 }, names.1)) (counted_says bad 2 (point_at bad) (point_says bad) key.1)
-        (λ points. only_bind bad (counted_at bad 0 (name_at bad count) points.1) (λ names. Ok (record { key = key.0; shape = points.0; texts = names.0 }, names.1)) (counted_says bad 0 (name_at bad count) (name_says bad count) points.1) (λ names. tt)))
+    (λ key. only_bind bad (counted_at bad 2 (point_at bad) key.1) (λ points. counted_at bad 0 (name_at bad count) points.1 >>= λ names. Ok (record { key = key.0; shape = points.0; texts = names.0 }, names.1)) (counted_says bad 2 (point_at bad) (point_says bad) key.1)
+    (λ points. only_bind bad (counted_at bad 0 (name_at bad count) points.1) (λ names. Ok (record { key = key.0; shape = points.0; texts = names.0 }, names.1)) (counted_says bad 0 (name_at bad count) (name_says bad count) points.1) (λ names. tt)))
 
 -- nothing is read where no good entry begins
 no_entry : (end count : ℕ) (front : List Info) (left : List ℕ) → IsByteList left → ((info : Info) (after : List ℕ) → InfoGood count front info → left ≡ info_bytes info ++ after → ⊥) → entry_at end count front left ≡ Err (bad_entry end left)
@@ -54,11 +54,12 @@ entries_fail end count section failure fits e =
     let size : length left ≡ length section - length (infos_bytes front) = omega (arith, ap length f.0.spelled_so, length-append (infos_bytes front) left) in
     let said = says (bad_entry end left) failure (entry_at end count front left) (entry_says end count front left) f.0.fails in
     let clash : (info : Info) (after : List ℕ) → InfoGood count front info → left ≡ info_bytes info ++ after → ⊥ = λ info after good same.
-        let again : entry_at end count front left ≡ Ok (info, after) = ap (entry_at end count front) same ∙ (entry_reader end count).again front info after good in
-        let no_end : Err failure ≡ Ok (info, after) = sym f.0.fails ∙ again in cc in
-    (length (infos_bytes front),
-     record { front = front; left = left; good = f.0.each_good; spelled = f.0.spelled_so; here = refl; some = f.1; bad = clash },
-     said ∙ ap (λ n. Check 13 (end - n)) size)
+    let again : entry_at end count front left ≡ Ok (info, after) = ap (entry_at end count front) same ∙ (entry_reader end count).again front info after good in
+    let no_end : Err failure ≡ Ok (info, after) = sym f.0.fails ∙ again in cc in (
+      length (infos_bytes front),
+      record { front = front; left = left; good = f.0.each_good; spelled = f.0.spelled_so; here = refl; some = f.1; bad = clash },
+      said ∙ ap (λ n. Check 13 (end - n)) size,
+    )
 
 pub entries_fail_again : (end count : ℕ) (section : List ℕ) (at : ℕ) → IsByteList section → EntryFails count section at → entries_at end count section ≡ Err (Check 13 (end - (length section - at)))
 unfolding entries_at
