@@ -10,3 +10,5 @@ mod InfoLaws
 mod StartLaws
 mod Failing
 mod EntryFailing
+mod PaddingFailing
+mod TextFailing

@@ -73,8 +73,11 @@ text_again end names there before x rest good =
     let one = is_fine end names there before bytes f.0 (subst (λ t. 0 < length t) (sym f.1) good.good.some) (ap is_utf8 f.1 ∙ good.good.utf8) (ap (λ t. list_any (λ s. bytes_eq s t) before) f.1 ∙ good.good.new) good.order in
     one ∙ rw (f.1, f.2) refl
 
-text_section : (end : ℕ) (names : List ℕ) (there : ℕ) → IsSection (text_at end names there) text_bytes (InOrder names there)
-text_section end names there = section_of (text_at end names there) text_bytes (InOrder names there) (record { takes = text_takes end names there; again = text_again end names there })
+pub text_reader : (end : ℕ) (names : List ℕ) (there : ℕ) → IsReader (text_at end names there) text_bytes (InOrder names there)
+text_reader end names there = record { takes = text_takes end names there; again = text_again end names there }
+
+pub text_section : (end : ℕ) (names : List ℕ) (there : ℕ) → IsSection (text_at end names there) text_bytes (InOrder names there)
+text_section end names there = section_of (text_at end names there) text_bytes (InOrder names there) (text_reader end names there)
 
 -- ---- the order
 
@@ -93,7 +96,7 @@ stands_there i (n ∷ ns) lt = by_test (stands_there i ns) (eqb n i) refl
 one_place : (i j : ℕ) (names : List ℕ) → first_place i names < length names → first_place i names ≡ first_place j names → i ≡ j
 one_place i j names lt e = sym (stands_there i names lt) ∙ ap (λ k. get_or names k 0) e ∙ stands_there j names (omega (arith, e, lt))
 
-none_below : (place : ℕ → ℕ) (limit from n : ℕ) → any_below place limit from n ≡ false → (j : ℕ) → from ≤ j → j < from + n → limit ≤ place j
+pub none_below : (place : ℕ → ℕ) (limit from n : ℕ) → any_below place limit from n ≡ false → (j : ℕ) → from ≤ j → j < from + n → limit ≤ place j
 none_below place limit from zero e j le lt = absurd (omega (arith, le, lt))
 none_below place limit from (suc n) e j le lt = by_test (λ t above. none_below place limit (suc from) n t j (omega (arith, above)) (omega (arith, lt))) (ltb (place from) limit) refl
   where
@@ -106,13 +109,13 @@ none_below place limit from (suc n) e j le lt = by_test (λ t above. none_below 
           | inr at ↦ (let same : from ≡ j = omega (arith, le, at) in subst (λ i. limit ≤ place i) same (ltb-false _ _ t))
         ]
 
-all_above : (place : ℕ → ℕ) (limit from n : ℕ) → ((j : ℕ) → from ≤ j → j < from + n → limit ≤ place j) → any_below place limit from n ≡ false
+pub all_above : (place : ℕ → ℕ) (limit from n : ℕ) → ((j : ℕ) → from ≤ j → j < from + n → limit ≤ place j) → any_below place limit from n ≡ false
 all_above place limit from zero h = refl
 all_above place limit from (suc n) h =
     let t : ltb (place from) limit ≡ false = le-ltb _ _ (h from (omega arith) (omega arith)) in
     rw t (all_above place limit (suc from) n (λ j le lt. h j (omega (arith, le)) (omega (arith, lt))))
 
-second_of : (a b : Bool) → a ≡ true → (a && b) ≡ false → b ≡ false
+pub second_of : (a b : Bool) → a ≡ true → (a && b) ≡ false → b ≡ false
 second_of true b t e = e
 second_of false b t e = absurd cc
 
@@ -136,14 +139,14 @@ in_order names there i h =
 
 -- ---- each of the texts
 
-all_good : (names : List ℕ) (there : ℕ) (before texts : List (List ℕ)) → AllGood (InOrder names there) before texts → AllGood TextGood before texts
+pub all_good : (names : List ℕ) (there : ℕ) (before texts : List (List ℕ)) → AllGood (InOrder names there) before texts → AllGood TextGood before texts
 all_good names there before [] h = tt
 all_good names there before (x ∷ xs) h = (h.0.good, all_good names there (before ++ x ∷ []) xs h.1)
 
 pushed : (before : List (List ℕ)) (x : List ℕ) (i : ℕ) → length before + suc i ≡ length (before ++ x ∷ []) + i
 pushed before x i = omega (arith, length-append before (x ∷ []))
 
-orders : (names : List ℕ) (there : ℕ) (before texts : List (List ℕ)) → AllGood (InOrder names there) before texts → (i : ℕ) → i < length texts → out_of_order names there (length before + i) ≡ false
+pub orders : (names : List ℕ) (there : ℕ) (before texts : List (List ℕ)) → AllGood (InOrder names there) before texts → (i : ℕ) → i < length texts → out_of_order names there (length before + i) ≡ false
 orders names there before [] h i lt = absurd (omega arith)
 orders names there before (x ∷ xs) h zero lt = let k : length before + 0 ≡ length before = omega arith in rw k h.0.order
 orders names there before (x ∷ xs) h (suc i) lt = rw (pushed before x i) (orders names there (before ++ x ∷ []) xs h.1 i (omega (arith, lt)))

@@ -3,7 +3,7 @@ ghost use Rattle.std.specs.Prelude.{◌≡◌, ◌+◌, ◌-◌, ◌<◌, ◌≤
 ghost use Rattle.section_grammar.specs.WordBytes.{IsByteList};
 ghost use Rattle.section_grammar.specs.Answers.{FailedCheck, Check};
 ghost use Rattle.edge_info.specs.declared.infos.Info.{Info};
-ghost use Rattle.edge_info.specs.Checks.{EntryFails};
+ghost use Rattle.edge_info.specs.Checks.{EntryFails, TextFails, PaddingFails};
 ghost use Rattle.edge_info.specs.Entries.{AreInfos, infos_bytes, IsSized, starts_of};
 ghost use Rattle.edge_info.specs.declared.infos.InfoSet.{InfoSet};
 ghost use Rattle.edge_info.specs.InfoSets.{gap, padding_at, info_set_at, SpellsInfos};
@@ -34,6 +34,9 @@ pub fn texts_law()
         → texts_at end names (length texts) (texts_bytes texts) ≡ Ok texts }
     ensures sized { (names : List ℕ) (texts : List (List ℕ)) → AreTexts names texts
         → All (λ text. length text < 2 ^ 32) texts }
+    ensures fails { (end : ℕ) (names : List ℕ) (count : ℕ) (section : List ℕ) (failure : FailedCheck) → IsByteList section
+        → texts_at end names count section ≡ Err failure
+        → (at : ℕ) × TextFails names count section at × (failure ≡ Check 15 (end - (length section - at))) }
 {}
 
 /// Padding that is read is zeros, and zeros are read again.
@@ -41,6 +44,10 @@ pub fn padding_law()
     ensures found { (end : ℕ) (bytes : List ℕ) (done : Unit {0}) → padding_at end bytes ≡ Ok done
         → bytes ≡ replicate (length bytes) 0 }
     ensures spelled { (end count : ℕ) → padding_at end (replicate count 0) ≡ Ok tt }
+    ensures fails { (end : ℕ) (bytes : List ℕ) (failure : FailedCheck) → padding_at end bytes ≡ Err failure
+        → (at : ℕ) × PaddingFails bytes at × (failure ≡ Check 16 (end - (length bytes - at))) }
+    ensures first { (end : ℕ) (bytes : List ℕ) (at : ℕ) → PaddingFails bytes at
+        → padding_at end bytes ≡ Err (Check 16 (end - (length bytes - at))) }
 {}
 
 /// Infos that are read were spelled so, and infos are read again from their bytes: no bytes spell two sets, no set has

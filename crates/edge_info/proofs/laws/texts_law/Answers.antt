@@ -1,4 +1,5 @@
 use Rattle.edge_info.proofs.TextLaws.{texts_found, texts_again, texts_sized}
+use Rattle.edge_info.proofs.TextFailing.{texts_fail}
 use Rattle.edge_info.proofs.laws.texts_law.Goals as goal
 
 pub returns-clause-found : goal.returns-clause-found
@@ -9,3 +10,6 @@ returns-clause-spelled c = λ end names texts are. texts_again end names texts a
 
 pub returns-clause-sized : goal.returns-clause-sized
 returns-clause-sized c = λ names texts are. texts_sized names texts are
+
+pub returns-clause-fails : goal.returns-clause-fails
+returns-clause-fails c = λ end names count section failure fits e. texts_fail end names count section failure fits e
