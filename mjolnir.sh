@@ -1,22 +1,63 @@
 #!/usr/bin/env bash
 # Builds the program mjolnir if it isn't built yet or a source has changed since, and runs it with the words that are
-# given.
+# given. Asked for help or for its version, it answers by itself, before anything is built.
 set -u
 top=$(cd "$(dirname "$0")" && pwd) || exit 1
 program=$top/crates/mjolnir/out/mjolnir
 
+usage() {
+    cat <<'USAGE'
+mjolnir: the offline tile builder of a road router, as verified software
+
+usage: ./mjolnir.sh COMMAND ...
+
+  blobs PATH                        a line for each blob of the extract: place, type, size in bytes
+                                      ./mjolnir.sh blobs city.osm.pbf
+  build --input PATH --output DIR   the list of the residential roads of the extract, as DIR/plain.lst
+                                      ./mjolnir.sh build --input city.osm.pbf --output out/city
+  --help, --version                 this text; the version
+
+An extract has to be written without compression (README.md, "Extracts"). The program ends with a status that README.md
+lists; what isn't done is said in one line that begins with `error`.
+USAGE
+}
+
+# The commit of the checkout and its day, and the kit that the proofs were made with.
+version() {
+    local commit kit
+    commit=$(git -C "$top" log -1 --format='%h %cs' 2>/dev/null) || commit=""
+    kit=$(grep -m 1 '^rattle-kit' "$top/README.md")
+    echo "mjolnir ${commit:-without a commit}"
+    echo "proved with $kit"
+}
+
 # Whether the program is there, and no source is newer.
 is_built() {
     [ -x "$program" ] &&
-        [ -z "$(find "$top/crates" "$top/crates.txt" -name out -prune -o -type f -newer "$program" -print -quit)" ]
+        [ -z "$(find "$top/crates" "$top/crates.txt" -name out -prune -o \
+            \( -name '*.rt' -o -name '*.antt' -o -name crates.txt \) -newer "$program" -print -quit)" ]
 }
+
+case "${1:-}" in
+    help | --help | -h)
+        usage
+        exit 0
+        ;;
+    --version | -V)
+        version
+        exit 0
+        ;;
+    "")
+        usage >&2
+        ;;
+esac
 
 if ! is_built; then
     if ! command -v rt >/dev/null 2>&1; then
         echo "mjolnir.sh: the command rt of the Rattle kit isn't on the PATH (README.md, \"Requirements\")" >&2
         exit 1
     fi
-    echo "mjolnir.sh: the first build proves every crate that the program stands on; that takes some minutes" >&2
+    echo "mjolnir.sh: the first build proves every crate that the program stands on: ten to twenty minutes on four processors" >&2
     # `rt run` proves, builds and runs the program; without words it says one line and refuses them.
     rm -f "$program"
     mkdir -p "$top/out"

@@ -5,8 +5,8 @@ ghost use Rattle.host_port.specs.RealHost.{nothing};
 
 use crate::counts::one_more;
 use crate::host::{Host, HostFault};
-use std::fs::OpenOptions;
-use std::io::{ErrorKind, Read, Write};
+use std::fs::{OpenFile, OpenOptions};
+use std::io::{BufReader, ErrorKind, Read, Write};
 use std::path::Path;
 use std::rt::Files;
 use std::{fs, io};
@@ -14,27 +14,33 @@ use std::{fs, io};
 /// So many names are tried for a part of a file.
 const MOST_PARTS: u32 = 100;
 
+/// So many bytes are read ahead, so that small reads make few calls of the system. Greater ones go past them.
+const READ_AHEAD: usize = 65_536;
+
 /// The files, folders and standard output that the program runs with. It tells nothing of them.
 ///
 /// Each error of the system is a fault and counts as one, also where the system finds no memory.
 #[derive(Drop)]
 pub struct RealHost<'a, R: Files + Print + Alloc> {
     rt: &'a R,
-    input: Option<R::File>,
+    process: u32,
+    input: Option<BufReader<R::File, R::A>>,
     read_faults: u64,
     put_faults: u64,
     say_faults: u64,
 }
 
 impl<'a, R: Files + Print + Alloc> RealHost<'a, R> {
-    /// A host with no input open and no fault counted.
-    pub fn new(rt: &'a R) -> RealHost<'a, R>
+    /// A host with no input open and no fault counted. The number of the process names the files that it writes
+    /// before they take their paths, so that two runs never write into one.
+    pub fn new(rt: &'a R, process: u32) -> RealHost<'a, R>
         ensures reads { ⟦<RealHost<'a, R> as Host>⟧.read_faults result ≡ 0 }
         ensures puts { ⟦<RealHost<'a, R> as Host>⟧.put_faults result ≡ 0 }
         ensures says { ⟦<RealHost<'a, R> as Host>⟧.say_faults result ≡ 0 }
     {
         RealHost {
             rt,
+            process,
             input: None,
             read_faults: 0,
             put_faults: 0,
@@ -55,7 +61,7 @@ impl<'a, R: Files + Print + Alloc> Host for RealHost<'a, R> {
     ghost willing = { λ _. ⊥ };
 
     fn open_input(&mut self, path: &str) -> Result<(), HostFault> {
-        match fs::open(self.rt, path) {
+        match open_ahead(self.rt, path) {
             Ok(file) => {
                 self.input = Some(file);
                 Ok(())
@@ -80,7 +86,7 @@ impl<'a, R: Files + Print + Alloc> Host for RealHost<'a, R> {
     /// Makes the folders that are missing on the way to the file. A file that was there stays as it was until the
     /// new one is whole.
     fn put(&mut self, path: &str, bytes: &[u8]) -> Result<(), HostFault> {
-        match write_file(self.rt, path, bytes) {
+        match write_file(self.rt, self.process, path, bytes) {
             Ok(()) => {
                 self.input = None;
                 Ok(())
@@ -108,23 +114,37 @@ impl<'a, R: Files + Print + Alloc> Host for RealHost<'a, R> {
     ghost willing_tells = { λ host willing. absurd willing };
 }
 
-/// The next bytes of the file that is open, if one is and the system gives them.
+/// The file of that path, opened for reading.
+fn open_ahead<R: Files + Alloc>(rt: &R, path: &str) -> io::Result<BufReader<R::File, R::A>> {
+    BufReader::with_capacity(rt.alloc(), READ_AHEAD, fs::open(rt, path)?)
+}
+
+/// The next bytes of the file that is open, if one is and the system gives them. A read that a signal interrupts is
+/// tried again.
 fn read_some<F: Read>(input: &mut Option<F>, buf: &mut [u8]) -> Option<usize>
     ensures { IfSome result (λ count. count ≤ length buf.new) }
 {
-    match input {
-        Some(file) => file.read(buf).ok(),
-        None => None,
+    let Some(file) = input else {
+        return None;
+    };
+    for _ in 0..u64::MAX {
+        match file.read(buf) {
+            Ok(count) => return Some(count),
+            Err(error) if error.kind() == ErrorKind::Interrupted => {}
+            Err(_) => return None,
+        }
     }
+    None
 }
 
 /// Makes the file hold these bytes, and before that the folders that are missing. They are written to a file of their
-/// own, the part, which takes the path once it is whole. So an error leaves what had the path before, and no part.
-fn write_file<R: Files + Alloc>(rt: &R, path: &str, bytes: &[u8]) -> io::Result<()> {
+/// own, the part, which takes the path once the system has them whole. So an error leaves what had the path before, and
+/// no part.
+fn write_file<R: Files + Alloc>(rt: &R, process: u32, path: &str, bytes: &[u8]) -> io::Result<()> {
     if let Some(folder) = Path::new(path).parent() {
         fs::create_dir_all(rt, folder)?;
     }
-    let (file, part) = new_part(rt, path)?;
+    let (file, part) = new_part(rt, process, path)?;
     let written = write_whole(file, bytes).and_then(|()| fs::rename(rt, part.as_str(), path));
     if written.is_err() {
         // What went wrong first is what is answered.
@@ -133,11 +153,15 @@ fn write_file<R: Files + Alloc>(rt: &R, path: &str, bytes: &[u8]) -> io::Result<
     written
 }
 
-/// A new file beside the one of that path, and its own path: the first of `PATH.part0`, `PATH.part1`, .. that nothing
-/// has, so that no other file is touched, as that of another run.
-fn new_part<R: Files + Alloc>(rt: &R, path: &str) -> io::Result<(R::File, String<R::A>)> {
+/// A new file beside the one of that path, and its own path: the first of `PATH.PROCESS.part0`, `PATH.PROCESS.part1`, ..
+/// that nothing has. So no other file is touched, and no other run takes this path while the part is written.
+fn new_part<R: Files + Alloc>(
+    rt: &R,
+    process: u32,
+    path: &str,
+) -> io::Result<(R::File, String<R::A>)> {
     for number in 0..MOST_PARTS {
-        let part = format!(in rt.alloc(); "{path}.part{number}")?;
+        let part = format!(in rt.alloc(); "{path}.{process}.part{number}")?;
         let mut options = OpenOptions::new();
         match options.write(true).create_new(true).open(rt, part.as_str()) {
             Ok(file) => return Ok((file, part)),
@@ -148,7 +172,9 @@ fn new_part<R: Files + Alloc>(rt: &R, path: &str) -> io::Result<(R::File, String
     Err(io::Error::from(ErrorKind::AlreadyExists))
 }
 
-/// Writes the bytes to the file and closes it.
-fn write_whole(mut file: impl Write + Drop, bytes: &[u8]) -> io::Result<()> {
-    file.write_all(bytes)
+/// Writes the bytes to the file and closes it. Before that the system is asked to store them, since it may tell only
+/// then that it can't, as where a disk over the network is full.
+fn write_whole(mut file: impl Write + OpenFile + Drop, bytes: &[u8]) -> io::Result<()> {
+    file.write_all(bytes)?;
+    file.sync_all()
 }

@@ -201,7 +201,7 @@ const FOLDER: &str = "host_port_test";
 
 const REAL_FILE: &str = "host_port_test/new/file";
 
-const PART: &str = "host_port_test/new/file.part0";
+const PART: &str = "host_port_test/new/file.7.part0";
 
 /// Whether each fails: an opening of no file, a put where a folder stands, a read after a put.
 fn real_faults<H: Host>(host: &mut H) -> [bool; 3] {
@@ -218,13 +218,13 @@ fn failed_puts<H: Host, R: Files + Alloc>(rt: &R, host: &mut H) -> Result<[bool;
     for number in 0..100u32 {
         fs::create_dir(
             rt,
-            format!(in rt.alloc(); "{REAL_FILE}.part{number}")?.as_str(),
+            format!(in rt.alloc(); "{REAL_FILE}.7.part{number}")?.as_str(),
         )?;
     }
     let no_part = host.put(REAL_FILE, b"other bytes").is_err();
     fs::remove_dir(rt, PART)?;
     let no_path = host.put("host_port_test/new", b"other bytes").is_err();
-    let is_left = fs::exists(rt, "host_port_test/new.part0")?;
+    let is_left = fs::exists(rt, "host_port_test/new.7.part0")?;
     Ok([no_part, no_path, is_left])
 }
 
@@ -232,13 +232,13 @@ fn failed_puts<H: Host, R: Files + Alloc>(rt: &R, host: &mut H) -> Result<[bool;
 fn put_beside_a_part<H: Host>(rt: &impl Files, host: &mut H) -> Result<[bool; 2], Fail> {
     fs::write(rt, PART, b"another run's")?;
     let fails = host.put(REAL_FILE, b"hello, world").is_err();
-    let is_left = fs::exists(rt, "host_port_test/new/file.part1")?;
+    let is_left = fs::exists(rt, "host_port_test/new/file.7.part1")?;
     Ok([fails, is_left])
 }
 
 #[test]
 fn works_on_real_files(rt: HostRuntime) -> Result<(), Fail> {
-    let mut host = RealHost::new(&rt);
+    let mut host = RealHost::new(&rt, 7);
     host.put(REAL_FILE, b"what was there before")?;
     assert!(rt; put_beside_a_part(&rt, &mut host)? == [false, false]);
     let (part, _) = read_all(rt.alloc(), &mut host, PART)?;

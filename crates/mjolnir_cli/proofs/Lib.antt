@@ -3,6 +3,7 @@ pub mod SoFar
 pub mod SameRoads
 pub mod OneAnswer
 pub mod OneEnd
+pub mod SomeEnd
 pub mod Cutting
 pub mod Stored
 pub mod Ends

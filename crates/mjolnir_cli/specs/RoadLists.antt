@@ -4,8 +4,9 @@ use Rattle.host_port.specs.Told.{Told, named}
 use Rattle.osm_model.specs.declared.extract.Extract.{Extract}
 use Rattle.road_pieces.specs.Runs.{is_junction}
 use Rattle.road_pieces.specs.Rows.{piece_rows}
+use Rattle.road_pieces.specs.Modes.{IsMode}
 use Rattle.road_pieces.specs.Walks.{RoadWalk}
-use Rattle.road_pieces.specs.ListWalks.{IsMode, PlainWalk, listed}
+use Rattle.road_pieces.specs.ListWalks.{PlainWalk, listed}
 use Rattle.mjolnir_cli.specs.declared.answer.Answer.{Answer}
 use Rattle.mjolnir_cli.specs.Words.{Request, Blobs, Build, list_path}
 use Rattle.mjolnir_cli.specs.Answers.{Spells}

@@ -19,6 +19,6 @@ mod words;
 
 pub use answer::Answer;
 pub use failure::Failure;
-pub use law::one_end;
-pub use top::mjolnir;
+pub use law::{one_end, some_end};
+pub use top::{mjolnir, wordless};
 pub use words::{Command, asked};

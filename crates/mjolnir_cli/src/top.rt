@@ -14,7 +14,7 @@ ghost use Rattle.mjolnir_cli.specs.Answers.{IsAnswer, IsRefused};
 ghost use Rattle.mjolnir_cli.specs.RoadLists.{ListsRoads, TellsItsPieces};
 ghost use Rattle.mjolnir_cli.specs.Puts.{PutsAll, BeginsWith, IsFront, paths};
 ghost use Rattle.mjolnir_cli.specs.Listing.{IfOfInput, IsMet, CountedRead, IfRead, OnlyRead};
-ghost use Rattle.mjolnir_cli.specs.Said.{Asks, HasItsInput, Adds, SaysLine, Unput, IsStatus, IsRefusal};
+ghost use Rattle.mjolnir_cli.specs.Said.{Asks, HasItsInput, Adds, SaysLine, OnlySaid, Unput, IsStatus, IsRefusal};
 
 use crate::answer::Answer;
 use crate::blobs::blob_list;
@@ -131,6 +131,18 @@ pub fn mjolnir<R: Threads + Sync, H: Host, G: Gate>(
             Err(failure) => say_failure(alloc, host, &failure),
         },
     }
+}
+
+/// What is done where there is no memory for the words: the line of that is said, where there is memory for it. Answers
+/// its status.
+pub fn wordless<H: Host>(alloc: Global, host: &mut H) -> u8
+    ensures status { result ≡ 7 }
+    ensures line { Adds (line_of OutOfMemory) (H.told host.old) (H.told host.new) ⊎ ((H.told host.new).said ≡ (H.told host.old).said) }
+    ensures others { OnlySaid (H.told host.old) (H.told host.new) }
+    ensures reads { H.read_faults host.new ≡ H.read_faults host.old }
+    ensures puts { H.put_faults host.new ≡ H.put_faults host.old }
+{
+    say_failure(alloc, host, &Failure::OutOfMemory)
 }
 
 /// Runs the command up to the files that are to be put and the text that is to be said.

@@ -6,3 +6,5 @@ pub mod Limits
 pub mod Shown
 pub mod Prefix
 pub mod Readings
+pub mod Whole
+pub mod OfBytes

@@ -13,3 +13,4 @@ pub mod MeantBlocks
 pub mod FirstFaults
 pub mod FirstInObjects
 pub mod FirstInBlocks
+pub mod NoMemory

@@ -12,3 +12,4 @@ pub mod Lengths
 pub mod DenseChain
 pub mod BlockLoop
 pub mod Placed
+pub mod NoMemory

@@ -10,3 +10,4 @@ pub mod Ahead
 pub mod Makes
 pub mod Meanings
 pub mod Framed
+pub mod OfBytes

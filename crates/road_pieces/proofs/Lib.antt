@@ -1,12 +1,16 @@
-mod Members
-mod Spans
+pub mod Members
+pub mod Spans
 pub mod Splits
-mod Ends
+pub mod Ends
 pub mod Patterns
-mod Nearest
-mod Along
-mod Own
-mod Fits
+pub mod Nearest
+pub mod Along
+pub mod Own
+pub mod Barriers
+pub mod Lists
+pub mod TurnPatterns
+pub mod PatternLeads
+pub mod Fits
 mod NodePlaces
 mod NodeBuckets
 mod HeadLemmas
@@ -24,4 +28,4 @@ mod RowPieces
 mod ListAgree
 mod PlainLemmas
 mod PlainRows
-mod WorkedRows
+pub mod WorkedRows

@@ -5,6 +5,7 @@ use Rattle.std.proofs.lemmas.List.Sums.{sum_by-cons}
 use Rattle.osm_model.specs.declared.extract.Extract.{Extract}
 use Rattle.road_pieces.specs.declared.rows.Piece.{Piece}
 use Rattle.road_pieces.specs.DirectedPiece.{DirectedPiece}
+use Rattle.road_pieces.specs.Modes.{all_modes, IsMode}
 use Rattle.road_pieces.specs.Paths.{Follows, Leads}
 use Rattle.road_pieces.specs.Rules.{Passes}
 use Rattle.road_pieces.specs.Runs.{is_junction}
@@ -12,7 +13,7 @@ use Rattle.road_pieces.specs.Pieces.{IsPiece, IsKeptJunction, piece_start, piece
 use Rattle.road_pieces.specs.Lengths.{piece_cm}
 use Rattle.road_pieces.specs.Rows.{piece_rows}
 use Rattle.road_pieces.specs.Walks.{MayRide, RoadWalk, PieceWalk}
-use Rattle.road_pieces.specs.ListWalks.{ListedPiece, listed, Ride, ride_start, ride_end, IsRide, PlainWalk, IsMode, ListsWalks}
+use Rattle.road_pieces.specs.ListWalks.{ListedPiece, listed, Ride, ride_start, ride_end, IsRide, PlainWalk, ListsWalks}
 use Rattle.road_pieces.proofs.Members.{IsIn, in_from_contains, contains_from_in, in_map, of_map}
 use Rattle.road_pieces.proofs.RowLengths.{directed_cm}
 use Rattle.road_pieces.proofs.RowPieces.{IsRow, RowPlace, piece_of_row, place_of_row, row_of_piece, piece_from}
@@ -74,7 +75,7 @@ any_follows Next e (f ∷ es) may = may f
 
 module _ (x : Extract) (mode : ℕ) (one : IsMode mode) where
   abbrev PiecesLead : ℤ → List DirectedPiece → ℤ → Type 0
-  PiecesLead a ps b = Leads (MayRide x 79 mode) (piece_start x) (piece_end x) (λ p q. Passes x mode (piece_end x p)) a ps b
+  PiecesLead a ps b = Leads (MayRide x all_modes mode) (piece_start x) (piece_end x) (λ p q. Passes x mode (piece_end x p)) a ps b
 
   abbrev RidesLead : ℤ → List Ride → ℤ → Type 0
   RidesLead a rs b = Leads (IsRide (told_rows x)) ride_start ride_end (λ ride next. ⊤) a rs b
@@ -98,21 +99,21 @@ module _ (x : Extract) (mode : ℕ) (one : IsMode mode) where
       let cm = sum_by-cons (piece_cm x) p ps ∙ (ap (λ n. n + sum_by (piece_cm x) ps) (sym alike.long) ∙ (ap (λ n. r.piece.cm + n) sum ∙ sym (sum_by-cons (λ ride. ride.piece.cm) r rs))) in
       (p ∷ ps, ((open_to_all x mode p one alike.exists, sym alike.starts ∙ begins, any_follows (λ p q. Passes x mode (piece_end x p)) p ps (λ q. none_closed x mode (piece_end x p) one), subst (λ n. PiecesLead n ps b) alike.ends leads), cm))
 
-  kept : (n : ℤ) → is_junction x n ≡ true → IsKeptJunction x 79 n
+  kept : (n : ℤ) → is_junction x n ≡ true → IsKeptJunction x all_modes n
   kept n here =
       let (p, (is, starts)) = piece_from x n here in
-      (p, is, (open_to_all x mode p one is).kept, starts)
+      (p, is, (open_to_all x mode p one is).may.0, starts)
 
-  to_list : (a b : ℤ) (total : ℕ) → RoadWalk x 79 mode a b total → PlainWalk (told_rows x) a b total
+  to_list : (a b : ℤ) (total : ℕ) → RoadWalk x all_modes mode a b total → PlainWalk (told_rows x) a b total
   to_list a b total w =
-      let pieces : PieceWalk x 79 mode a b total = (same_walks x 79 mode a b total).0 w in
+      let pieces : PieceWalk x all_modes mode a b total = (same_walks x all_modes mode a b total).0 w in
       let (rs, (leads, sum)) = rides_from pieces.pieces a b pieces.leads in
       record { rides = rs; leads = leads; length_is = sum ∙ pieces.length_is }
 
-  from_list : (a b : ℤ) (total : ℕ) → is_junction x a ≡ true → is_junction x b ≡ true → PlainWalk (told_rows x) a b total → RoadWalk x 79 mode a b total
+  from_list : (a b : ℤ) (total : ℕ) → is_junction x a ≡ true → is_junction x b ≡ true → PlainWalk (told_rows x) a b total → RoadWalk x all_modes mode a b total
   from_list a b total here there w =
       let (ps, (leads, sum)) = pieces_from w.rides a b w.leads in
-      (same_walks x 79 mode a b total).1 (record {
+      (same_walks x all_modes mode a b total).1 (record {
         starts = kept a here;
         ends = kept b there;
         pieces = ps;

@@ -2,10 +2,21 @@
 use Rattle.std.proofs.Common.{◌≡◌, ℕ, zero, suc, ◌+◌, ◌<◌, refl, sym, ◌∙◌, ap, subst, List, [], ◌∷◌, ◌++◌, length, map, get_or, inl, inr, arith}
 use Rattle.std.specs.Prelude.{◌⊎◌}
 use Rattle.std.specs.List.{Contains, flat_map, enumerate_from}
+use Rattle.road_pieces.specs.Among.{Among}
 
 abbrev pub IsIn : {E : Type 0} → List E → E → Type 0
 IsIn [] e = ⊥
 IsIn (f ∷ fs) e = (f ≡ e) ⊎ IsIn fs e
+
+pub in_from_among : {E : Type 0} (es : List E) (e : E) → Among es e → IsIn es e
+in_from_among [] e h = h
+in_from_among (f ∷ es) e (inl is) = inl is
+in_from_among (f ∷ es) e (inr there) = inr (in_from_among es e there)
+
+pub among_from_in : {E : Type 0} (es : List E) (e : E) → IsIn es e → Among es e
+among_from_in [] e h = h
+among_from_in (f ∷ es) e (inl is) = inl is
+among_from_in (f ∷ es) e (inr there) = inr (among_from_in es e there)
 
 pub in_at : {E : Type 0} (xs : List E) (k : ℕ) (d e : E) → k < length xs → get_or xs k d ≡ e → IsIn xs e
 in_at [] k d e h is = absurd (omega arith)
@@ -27,16 +38,16 @@ contains_from_in xs e h =
     let (k, (inside, is)) = at_in xs e h in
     (k, inside, is e)
 
-in_left : {E : Type 0} (xs ys : List E) (e : E) → IsIn xs e → IsIn (xs ++ ys) e
+pub in_left : {E : Type 0} (xs ys : List E) (e : E) → IsIn xs e → IsIn (xs ++ ys) e
 in_left [] ys e h = absurd h
 in_left (x ∷ xs) ys e (inl is) = inl is
 in_left (x ∷ xs) ys e (inr later) = inr (in_left xs ys e later)
 
-in_right : {E : Type 0} (xs ys : List E) (e : E) → IsIn ys e → IsIn (xs ++ ys) e
+pub in_right : {E : Type 0} (xs ys : List E) (e : E) → IsIn ys e → IsIn (xs ++ ys) e
 in_right [] ys e h = h
 in_right (x ∷ xs) ys e h = inr (in_right xs ys e h)
 
-of_append : {E : Type 0} (xs ys : List E) (e : E) → IsIn (xs ++ ys) e → IsIn xs e ⊎ IsIn ys e
+pub of_append : {E : Type 0} (xs ys : List E) (e : E) → IsIn (xs ++ ys) e → IsIn xs e ⊎ IsIn ys e
 of_append [] ys e h = inr h
 of_append (x ∷ xs) ys e (inl is) = inl (inl is)
 of_append (x ∷ xs) ys e (inr later) =

@@ -1,12 +1,16 @@
+pub mod Among
 pub mod Paths
+pub mod Following
 pub mod DirectedPiece
+pub mod Modes
 pub mod Rules
 pub mod Runs
 pub mod Steps
 pub mod Pieces
 pub mod Lengths
-pub mod Walks
 pub mod Turns
+pub mod Matches
+pub mod Walks
 pub mod Rows
 pub mod ListWalks
 pub mod Lines

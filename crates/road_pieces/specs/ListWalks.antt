@@ -1,8 +1,9 @@
 -- Walks over a list of pieces, each told by its start, its end and its length.
-use Rattle.std.specs.Prelude.{◌≡◌, ◌↔◌, ⊤, ℕ, ℤ, Bool, true, List, [], ◌∷◌, map, sum_by, if◌then◌else◌}
+use Rattle.std.specs.Prelude.{◌≡◌, ◌↔◌, ⊤, ℕ, ℤ, Bool, true, List, map, sum_by, if◌then◌else◌}
 use Rattle.std.specs.List.{Contains}
 use Rattle.osm_model.specs.declared.extract.Extract.{Extract}
 use Rattle.road_pieces.specs.declared.rows.Piece.{Piece}
+use Rattle.road_pieces.specs.Modes.{all_modes, IsMode}
 use Rattle.road_pieces.specs.Paths.{Leads}
 use Rattle.road_pieces.specs.Runs.{is_junction}
 use Rattle.road_pieces.specs.Rows.{piece_rows}
@@ -39,11 +40,7 @@ pub record PlainWalk (pieces : List ListedPiece) (a b : ℤ) (total : ℕ) : Typ
   pub leads : Leads (IsRide pieces) ride_start ride_end (λ ride next. ⊤) a rides b
   pub length_is : sum_by (λ ride. ride.piece.cm) rides ≡ total
 
--- the bit of a mode: auto, pedestrian, bicycle, truck, bus
-abbrev pub IsMode : ℕ → Type 0
-IsMode mode = Contains (1 ∷ 2 ∷ 4 ∷ 8 ∷ 64 ∷ []) mode
-
 -- The law of listed pieces: where all modes are asked, the roads, walked by single segments, have between two
 -- junctions exactly the walks that their pieces have, told by starts, ends and lengths.
 abbrev pub ListsWalks : Type 0
-ListsWalks = (x : Extract) (mode : ℕ) → IsMode mode → (a b : ℤ) → is_junction x a ≡ true → is_junction x b ≡ true → (total : ℕ) → RoadWalk x 79 mode a b total ↔ PlainWalk (map listed (piece_rows x)) a b total
+ListsWalks = (x : Extract) (mode : ℕ) → IsMode mode → (a b : ℤ) → is_junction x a ≡ true → is_junction x b ≡ true → (total : ℕ) → RoadWalk x all_modes mode a b total ↔ PlainWalk (map listed (piece_rows x)) a b total

@@ -27,6 +27,7 @@ pub(crate) fn is_barrier(tags: &Tags) -> bool
 }
 
 /// The class of a routable way, from 0, motorway, to 7.
+#[tactic(auto, unfolding(crate::specs::Rules::class_of))]
 pub(crate) fn class_of(_tags: &Tags) -> u8
     ensures { result ≡ class_of _tags.now }
 {
@@ -34,6 +35,7 @@ pub(crate) fn class_of(_tags: &Tags) -> u8
 }
 
 /// The modes that may use a routable way forward.
+#[tactic(auto, unfolding(crate::specs::Rules::forward_access))]
 pub(crate) fn forward_access(_tags: &Tags) -> u16
     ensures { result ≡ forward_access _tags.now }
 {
@@ -41,6 +43,7 @@ pub(crate) fn forward_access(_tags: &Tags) -> u16
 }
 
 /// The modes that may use a routable way backward.
+#[tactic(auto, unfolding(crate::specs::Rules::backward_access))]
 pub(crate) fn backward_access(_tags: &Tags) -> u16
     ensures { result ≡ backward_access _tags.now }
 {
@@ -48,6 +51,7 @@ pub(crate) fn backward_access(_tags: &Tags) -> u16
 }
 
 /// The modes that may pass a node.
+#[tactic(auto, unfolding(crate::specs::Rules::node_access))]
 pub(crate) fn node_access(_tags: &Tags) -> u16
     ensures { result ≡ node_access _tags.now }
 {
@@ -55,6 +59,7 @@ pub(crate) fn node_access(_tags: &Tags) -> u16
 }
 
 /// The names of a way.
+#[tactic(auto, unfolding(crate::specs::Rules::names_of))]
 pub(crate) fn names_of(alloc: Global, _tags: &Tags) -> Result<Names, AllocError>
     ensures { IfOk result (λ names. names ≡ names_of _tags.now) }
 {

@@ -1,0 +1,7 @@
+use Rattle.std.proofs.Common.{◌∙◌, ap, true}
+use Rattle.clap.specs.Walk.{Text}
+use Rattle.clap.specs.Simple.{App, on_top, app_of_fields}
+use Rattle.command_words.proofs.rows.nameless.Goals as goal
+
+pub returns : goal.returns
+returns c = ap app_of_fields c.no_binary_name.ensures ∙ ap (on_top (λ s. record s { no_binary_name = true })) c.new.ensures.app

@@ -1,0 +1,4 @@
+pub mod Rows
+pub mod Values
+pub mod Asks
+pub mod Usage

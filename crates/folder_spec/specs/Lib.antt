@@ -1,0 +1,10 @@
+pub mod Links
+pub mod Levels
+pub mod Chains
+pub mod FolderWalks
+pub mod Renders
+pub mod Tables
+pub mod Rows
+pub mod Records
+pub mod FolderLaws
+pub mod Folder

@@ -1,0 +1,15 @@
+pub mod Reverses
+pub mod Locals
+pub mod MaskLaw
+pub mod EdgeAgree
+pub mod PatternsAgree
+pub mod Stretches
+pub mod PieceMatchLaw
+pub mod ReadingLaw
+pub mod Sorted
+pub mod PiecesAre
+pub mod PiecesOnce
+pub mod ListedLaws
+pub mod StageLaws
+pub mod WorkedTurns
+pub mod WorkedStars

@@ -1,0 +1,9 @@
+pub mod Orders
+pub mod Masks
+pub mod BaseEdges
+pub mod Listed
+pub mod EdgeWalks
+pub mod PatternLaws
+pub mod PieceMatches
+pub mod Readings
+pub mod Stages

@@ -1,0 +1,3 @@
+mod Flags
+mod EdgeLaws
+mod NodeLaws
