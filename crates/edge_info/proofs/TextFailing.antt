@@ -1,15 +1,16 @@
 -- The first text that fails.
 use Rattle.std.proofs.Common.{◌≡◌, ℕ, zero, suc, ◌+◌, ◌-◌, ◌<◌, ◌≤◌, Bool, true, false, cond, eqb, ltb, leb, ◌&&◌, not, List, [], ◌∷◌, ◌++◌, length, Result, Ok, Err, refl, sym, ap, subst, ◌∙◌, arith, inl, inr, ◌⊎◌}
-use Rattle.std.proofs.lemmas.Bool.{eqb-true, eqb-false, lt-ltb, ltb-true, ltb-false}
+use Rattle.std.proofs.lemmas.Bool.{cases_lt, eq-eqb, ne_eqb, eqb-true, eqb-false, lt-ltb, le-ltb, ltb-true, ltb-false}
 use Rattle.std.proofs.lemmas.List.{nil_from_length, length-append}
 use Rattle.section_grammar.specs.WordBytes.{IsByteList}
 use Rattle.section_grammar.specs.Reads.{◌>>=◌, read_many, AllGood}
 use Rattle.section_grammar.specs.Answers.{FailedCheck, Check, place_of, ended}
+use Rattle.section_grammar.proofs.ByteLists.{IsByteList-rest}
 use Rattle.edge_info.specs.Texts.{text_bytes, texts_bytes, first_place, TextGood}
 use Rattle.edge_info.specs.TextReading.{has_text, text_in, after_text, texts_there, any_below, out_of_order, is_new_text, bad_text, text_at, all_named, texts_at}
 use Rattle.edge_info.specs.Checks.{IsInPlace, NoTextFollows, TextsGoOn, TextUnnamed, TextFails}
-use Rattle.edge_info.proofs.Failing.{OnlyFails, only_test, says, Failed, many_fails}
-use Rattle.edge_info.proofs.TextLaws.{InOrder, text_reader, text_section, none_below, all_above, second_of, all_good, orders}
+use Rattle.edge_info.proofs.Failing.{OnlyFails, only_test, says, Failed, many_fails, many_fails_again}
+use Rattle.edge_info.proofs.TextLaws.{InOrder, text_reader, text_section, none_below, all_above, second_of, all_good, orders, with_orders}
 
 text_says : (end : ℕ) (names : List ℕ) (there : ℕ) (before : List (List ℕ)) (rest : List ℕ) → OnlyFails (bad_text end rest) (text_at end names there before rest)
 unfolding text_at
@@ -118,3 +119,57 @@ module _ (end : ℕ) (names : List ℕ) (count : ℕ) (section : List ℕ) (fail
                   ]) refl m
             ]) refl k
       ]) refl e
+
+-- ---- and again
+
+no_text : (end : ℕ) (names : List ℕ) (there : ℕ) (front : List (List ℕ)) (left : List ℕ) → IsByteList left
+    → ((text after : List ℕ) → TextGood front text → IsInPlace names there (length front) → left ≡ text_bytes text ++ after → ⊥) → text_at end names there front left ≡ Err (bad_text end left)
+no_text end names there front left fits bad =
+    (elim (text_at end names there front left) as (λ r. text_at end names there front left ≡ r → r ≡ Err (bad_text end left)) [
+      | Ok x ↦ λ h. (let t = (text_reader end names there).takes front left x.0 x.1 fits h in absurd (bad x.0 x.1 t.0.good (in_place_of names there (length front) t.0.order) t.1))
+      | Err d ↦ λ h. ap (λ f. Err f) (says (bad_text end left) d (text_at end names there front left) (text_says end names there front left) h)
+    ]) refl
+
+not_all : (names : List ℕ) (from n i : ℕ) → from ≤ i → i < from + n → length names ≤ first_place i names → all_named names from n ≡ false
+not_all names from zero i le lt un = absurd (omega (arith, le, lt))
+not_all names from (suc n) i le lt un =
+    elim (cases_lt from i) [
+      | inl above ↦ (let more = not_all names (suc from) n i (omega (arith, above)) (omega (arith, lt)) un in rw more (elim (ltb (first_place from names) (length names)) as (λ b. (b && false) ≡ false) [ true ↦ refl | false ↦ refl ]))
+      | inr at ↦ (
+          let same : i ≡ from = omega (arith, le, at) in
+          let t : ltb (first_place from names) (length names) ≡ false = le-ltb _ _ (subst (λ j. length names ≤ first_place j names) same un) in
+          rw t refl)
+    ]
+
+err_many : (end : ℕ) (names : List ℕ) (count : ℕ) (section : List ℕ) (d : FailedCheck) → read_many (text_at end names (texts_there count section)) count [] section ≡ Err d → texts_at end names count section ≡ Err d
+unfolding texts_at
+err_many end names count section d e = rw e refl
+
+err_left : (end : ℕ) (names : List ℕ) (count : ℕ) (section : List ℕ) (front : List (List ℕ)) (left : List ℕ) → read_many (text_at end names (texts_there count section)) count [] section ≡ Ok (front, left) → eqb (length left) 0 ≡ false → texts_at end names count section ≡ Err (Check 15 (place_of end left))
+unfolding texts_at
+err_left end names count section front left e t = rw (e, t) refl
+
+err_named : (end : ℕ) (names : List ℕ) (count : ℕ) (section : List ℕ) (front : List (List ℕ)) (left : List ℕ) → read_many (text_at end names (texts_there count section)) count [] section ≡ Ok (front, left) → eqb (length left) 0 ≡ true → all_named names 0 count ≡ false → texts_at end names count section ≡ Err (Check 15 end)
+unfolding texts_at
+err_named end names count section front left e t n = rw (e, t, n) refl
+
+pub texts_fail_again : (end : ℕ) (names : List ℕ) (count : ℕ) (section : List ℕ) (at : ℕ) → IsByteList section → TextFails names count section at → texts_at end names count section ≡ Err (Check 15 (end - (length section - at)))
+texts_fail_again end names count section at fits f =
+    let there = texts_there count section in
+    let size : length f.left ≡ length section - at = omega (arith, ap length f.spelled, length-append (texts_bytes f.front) f.left, f.here) in
+    let each : AllGood (InOrder names there) [] f.front = with_orders names there [] f.front f.good (λ i lt. let k : 0 + i ≡ i = omega arith in ap (out_of_order names there) k ∙ order_of names there i (f.in_place i lt)) in
+    let read : length f.front ≡ count → read_many (text_at end names there) count [] section ≡ Ok (f.front, f.left) = λ all.
+    ap (λ n. read_many (text_at end names there) n [] section) (sym all) ∙ ap (read_many (text_at end names there) (length f.front) []) f.spelled ∙ (text_section end names there).spelled f.front f.left each in
+    elim f.why [
+      | inl w ↦ (
+          let here = no_text end names there f.front f.left (IsByteList-rest section (texts_bytes f.front) f.left fits f.spelled) w.bad in
+          let many : read_many (text_at end names there) count [] section ≡ Err (bad_text end f.left) = ap (read_many (text_at end names there) count []) f.spelled ∙ many_fails_again (text_at end names there) text_bytes (InOrder names there) (text_reader end names there) f.front count [] f.left (bad_text end f.left) each w.few here in
+          err_many end names count section (bad_text end f.left) many ∙ ap (λ n. Err (Check 15 (end - n))) size)
+      | inr v ↦ elim v [
+        | inl w ↦ err_left end names count section f.front f.left (read w.all) (ne_eqb (length f.left) 0 (λ z. omega (arith, z, w.some))) ∙ ap (λ n. Err (Check 15 (end - n))) size
+        | inr w ↦ (
+            let none : length f.left ≡ 0 = ap length w.none in
+            let at_end : end ≡ end - (length section - at) = omega (arith, none, size) in
+            err_named end names count section f.front f.left (read w.all) (eq-eqb (length f.left) 0 none) (not_all names 0 count w.number (omega arith) (omega (arith, w.one)) w.unnamed) ∙ ap (λ n. Err (Check 15 n)) at_end)
+      ]
+    ]

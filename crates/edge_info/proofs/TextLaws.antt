@@ -151,7 +151,7 @@ orders names there before [] h i lt = absurd (omega arith)
 orders names there before (x ∷ xs) h zero lt = let k : length before + 0 ≡ length before = omega arith in rw k h.0.order
 orders names there before (x ∷ xs) h (suc i) lt = rw (pushed before x i) (orders names there (before ++ x ∷ []) xs h.1 i (omega (arith, lt)))
 
-with_orders : (names : List ℕ) (there : ℕ) (before texts : List (List ℕ)) → AllGood TextGood before texts → ((i : ℕ) → i < length texts → out_of_order names there (length before + i) ≡ false) → AllGood (InOrder names there) before texts
+pub with_orders : (names : List ℕ) (there : ℕ) (before texts : List (List ℕ)) → AllGood TextGood before texts → ((i : ℕ) → i < length texts → out_of_order names there (length before + i) ≡ false) → AllGood (InOrder names there) before texts
 with_orders names there before [] h o = tt
 with_orders names there before (x ∷ xs) h o =
     let k : length before + 0 ≡ length before = omega arith in (

@@ -37,6 +37,9 @@ pub fn texts_law()
     ensures fails { (end : ℕ) (names : List ℕ) (count : ℕ) (section : List ℕ) (failure : FailedCheck) → IsByteList section
         → texts_at end names count section ≡ Err failure
         → (at : ℕ) × TextFails names count section at × (failure ≡ Check 15 (end - (length section - at))) }
+    ensures first { (end : ℕ) (names : List ℕ) (count : ℕ) (section : List ℕ) (at : ℕ) → IsByteList section
+        → TextFails names count section at
+        → texts_at end names count section ≡ Err (Check 15 (end - (length section - at))) }
 {}
 
 /// Padding that is read is zeros, and zeros are read again.

@@ -1,5 +1,5 @@
 use Rattle.edge_info.proofs.TextLaws.{texts_found, texts_again, texts_sized}
-use Rattle.edge_info.proofs.TextFailing.{texts_fail}
+use Rattle.edge_info.proofs.TextFailing.{texts_fail, texts_fail_again}
 use Rattle.edge_info.proofs.laws.texts_law.Goals as goal
 
 pub returns-clause-found : goal.returns-clause-found
@@ -13,3 +13,6 @@ returns-clause-sized c = λ names texts are. texts_sized names texts are
 
 pub returns-clause-fails : goal.returns-clause-fails
 returns-clause-fails c = λ end names count section failure fits e. texts_fail end names count section failure fits e
+
+pub returns-clause-first : goal.returns-clause-first
+returns-clause-first c = λ end names count section at fits f. texts_fail_again end names count section at fits f
