@@ -1,21 +1,18 @@
 -- Entries that are read are those that were written, and again.
-use Rattle.std.proofs.Common.{◌≡◌, ℕ, zero, suc, ◌+◌, ◌-◌, ◌^◌, ◌<◌, ◌≤◌, Bool, true, List, [], ◌∷◌, ◌++◌, length, get_or, All, Result, Ok, Err, refl, sym, ap, subst, ◌∙◌, append_assoc, arith}
-use Rattle.std.specs.List.{flat_map}
+use Rattle.std.proofs.Common.{◌≡◌, ℕ, zero, suc, ◌^◌, ◌<◌, List, [], ◌∷◌, ◌++◌, length, get_or, All, Ok, refl, sym, ap, subst, ◌∙◌, append_assoc, arith}
 use Rattle.std.specs.Int.{w64, cast_unsigned}
 use Rattle.std.proofs.lemmas.List.{length-append}
 use Rattle.fixed_geo.specs.Place.{IsPlace}
-use Rattle.fixed_geo.specs.declared.points.Point.{Point}
-use Rattle.osm_model.specs.declared.piece_key.PieceKey.{PieceKey}
 use Rattle.section_grammar.specs.WordBytes.{IsByteList, word_bytes, half_bytes}
 use Rattle.section_grammar.specs.Reads.{◌>>=◌, AllGood}
 use Rattle.section_grammar.specs.Sections.{IsReader, IsSection, FillsSection}
 use Rattle.section_grammar.specs.Answers.{FailedCheck}
 use Rattle.section_grammar.proofs.ByteLists.{IsByteList-rest}
-use Rattle.section_grammar.proofs.WordLaws.{word_length, half_length}
+use Rattle.section_grammar.proofs.WordLaws.{word_length}
 use Rattle.section_grammar.proofs.Steps.{bind_ok, ok_is}
 use Rattle.section_grammar.proofs.Sections.{section_of, filling_of}
 use Rattle.edge_info.specs.declared.infos.Info.{Info}
-use Rattle.edge_info.specs.Entries.{key_bytes, point_bytes, counted_bytes, info_bytes, infos_bytes, KeyFits, key_rises, InfoGood, AreInfos, IsSized}
+use Rattle.edge_info.specs.Entries.{key_bytes, point_bytes, counted_bytes, info_bytes, infos_bytes, InfoGood, AreInfos, IsSized}
 use Rattle.edge_info.specs.EntryReading.{bad_entry, key_at, point_at, name_at, counted_at, entry_at, entries_at}
 use Rattle.edge_info.proofs.EntryParts.{NameGood, point_reader, name_reader, key_takes, key_again, counted_takes, counted_again}
 

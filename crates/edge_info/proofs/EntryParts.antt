@@ -1,22 +1,22 @@
 -- Keys, points and names at the front of bytes, and lists of them with their number.
-use Rattle.std.proofs.Common.{◌≡◌, ℕ, zero, suc, ◌+◌, ◌-◌, ◌^◌, ◌<◌, ◌≤◌, Bool, true, false, cond, ltb, leb, ◌&&◌, ℤ, List, [], ◌∷◌, ◌++◌, length, take, drop, All, Result, Ok, Err, refl, sym, ap, subst, ◌∙◌, append_assoc, arith}
+use Rattle.std.proofs.Common.{◌≡◌, ℕ, zero, suc, ◌^◌, ◌<◌, ◌≤◌, Bool, true, false, cond, ltb, leb, ◌&&◌, ℤ, List, [], ◌∷◌, ◌++◌, length, drop, Result, Ok, Err, refl, sym, ap, subst, ◌∙◌, append_assoc, arith}
 use Rattle.std.specs.Prelude.{pos, neg_ℤ, ◌≤ℤ◌, FitsSigned, int_le}
 use Rattle.std.specs.List.{flat_map}
 use Rattle.std.specs.Int.{w32, w64, cast_signed, cast_unsigned}
 use Rattle.std.proofs.Math.Facts.{Fits-of_z, Fits-of_lt, Fits-lt-pow, sfits_to_z}
 use Rattle.std.proofs.lemmas.Int.{to_z-of_z, of_z-to_z, ints}
 use Rattle.std.proofs.lemmas.Bool.{and_parts, ltb-true, lt-ltb, le-ltb, leb-true, le-leb, ltb-false}
-use Rattle.std.proofs.lemmas.List.{append-nil, length-append, length-drop}
+use Rattle.std.proofs.lemmas.List.{length-append, length-drop}
 use Rattle.fixed_geo.specs.Place.{IsPlace}
 use Rattle.fixed_geo.specs.declared.points.Point.{Point}
 use Rattle.osm_model.specs.declared.piece_key.PieceKey.{PieceKey}
 use Rattle.section_grammar.specs.WordBytes.{IsByteList, word_in, half_in, word_bytes, half_bytes}
-use Rattle.section_grammar.specs.Reads.{◌>>=◌, read_many, AllGood}
+use Rattle.section_grammar.specs.Reads.{read_many, AllGood}
 use Rattle.section_grammar.specs.Sections.{IsReader, IsSection}
 use Rattle.section_grammar.specs.Answers.{FailedCheck}
 use Rattle.section_grammar.proofs.ByteLists.{IsByteList-drop}
 use Rattle.section_grammar.proofs.WordLaws.{word_takes, word_below, word_again, word_after, word_length, half_takes, half_below, half_again, half_after, half_length}
-use Rattle.section_grammar.proofs.Steps.{guard_ok, passed_ok, ok_is}
+use Rattle.section_grammar.proofs.Steps.{guard_ok, passed_ok}
 use Rattle.edge_info.specs.declared.infos.Info.{Info}
 use Rattle.edge_info.specs.Entries.{comes_before, key_rises, key_bytes, KeyFits, point_bytes, counted_bytes}
 use Rattle.edge_info.specs.EntryReading.{key_in, key_at, point_in, is_place, point_at, name_at, counted_at}

@@ -1,12 +1,11 @@
 -- What stands at the front of bytes, where a reading of it did not fail.
-use Rattle.std.proofs.Common.{◌≡◌, ℕ, zero, suc, ◌+◌, ◌-◌, ◌<◌, ◌≤◌, Bool, true, false, cond, ltb, leb, List, [], ◌∷◌, ◌++◌, length, take, drop, Result, Ok, Err, refl, sym, ap, ◌∙◌, append_assoc, arith}
-use Rattle.std.proofs.lemmas.Bool.{ltb-false, leb-true}
-use Rattle.std.proofs.lemmas.List.{length-append, length-drop}
+use Rattle.std.proofs.Common.{◌≡◌, ℕ, ◌≤◌, Bool, true, cond, ltb, List, ◌++◌, length, drop, Ok, Err, sym, ap, ◌∙◌, arith}
+use Rattle.std.proofs.lemmas.Bool.{ltb-false}
+use Rattle.std.proofs.lemmas.List.{length-drop}
 use Rattle.section_grammar.specs.WordBytes.{IsByteList, half_in, half_bytes}
-use Rattle.section_grammar.specs.Reads.{◌>>=◌, read_many}
 use Rattle.section_grammar.proofs.ByteLists.{IsByteList-drop}
 use Rattle.section_grammar.proofs.WordLaws.{half_takes}
-use Rattle.section_grammar.proofs.Steps.{bind_ok, guard_ok, passed_ok, ok_is}
+use Rattle.section_grammar.proofs.Steps.{guard_ok, passed_ok, ok_is}
 
 -- a reading that asks for so many bytes and for a test
 pub front_ok : {A F : Type 0} (rest : List ℕ) (n : ℕ) (test : Bool) (bad : F) (v w : A) → cond (ltb (length rest) n) (Err bad) (cond test (Ok v) (Err bad)) ≡ Ok w → (n ≤ length rest) × (test ≡ true) × (v ≡ w)

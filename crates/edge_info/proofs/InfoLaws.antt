@@ -1,8 +1,8 @@
 -- Infos that are read are those that were written, and again.
-use Rattle.std.proofs.Common.{◌≡◌, ℕ, zero, suc, ◌+◌, ◌-◌, ◌%◌, ◌<◌, ◌≤◌, Bool, true, cond, eqb, List, [], ◌∷◌, ◌++◌, length, take, drop, replicate, Result, Ok, Err, refl, sym, ap, subst, ◌∙◌, arith}
+use Rattle.std.proofs.Common.{◌≡◌, ℕ, zero, suc, ◌+◌, eqb, List, [], ◌∷◌, ◌++◌, length, take, drop, replicate, Result, Ok, Err, refl, sym, ap, subst, ◌∙◌, arith}
 use Rattle.std.specs.Prelude.{IfOk}
 use Rattle.std.proofs.lemmas.Bool.{eqb-true}
-use Rattle.std.proofs.lemmas.List.{take_at, drop_at, take-append-drop, length-append, length-take, length-drop}
+use Rattle.std.proofs.lemmas.List.{take_at, drop_at, take-append-drop, length-take, length-drop}
 use Rattle.section_grammar.specs.WordBytes.{IsByteList}
 use Rattle.section_grammar.specs.declared.fault.SectionFault.{SectionFault}
 use Rattle.section_grammar.specs.Reads.{◌>>=◌}
@@ -15,7 +15,7 @@ use Rattle.edge_info.specs.Entries.{AreInfos, infos_bytes, names_of}
 use Rattle.edge_info.specs.EntryReading.{entries_at}
 use Rattle.edge_info.specs.Texts.{AreTexts, texts_bytes}
 use Rattle.edge_info.specs.TextReading.{texts_at}
-use Rattle.edge_info.specs.InfoSets.{gap, joined_bytes, IsInfoSet, SpellsInfos, padding_at, info_set_at}
+use Rattle.edge_info.specs.InfoSets.{gap, joined_bytes, SpellsInfos, padding_at, info_set_at}
 
 pub zeros : (end : ℕ) (bytes : List ℕ) (u : Unit {0}) → padding_at end bytes ≡ Ok u → bytes ≡ replicate (length bytes) 0
 unfolding padding_at

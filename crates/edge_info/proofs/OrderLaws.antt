@@ -1,10 +1,10 @@
 -- Where numbers first stand, and which is named before one that stands before it.
-use Rattle.std.proofs.Common.{◌≡◌, ℕ, zero, suc, ◌+◌, ◌-◌, ◌^◌, ◌<◌, ◌≤◌, min, Bool, true, false, cond, ltb, eqb, ◌&&◌, List, [], ◌∷◌, ◌++◌, length, get_or, take, drop, set, replicate, refl, sym, ap, subst, ◌∙◌, arith, inl, inr, ◌⊎◌}
+use Rattle.std.proofs.Common.{◌≡◌, ℕ, zero, suc, ◌+◌, ◌-◌, ◌^◌, ◌<◌, ◌≤◌, Bool, true, false, cond, ltb, eqb, ◌&&◌, List, [], ◌∷◌, length, get_or, drop, set, refl, sym, ap, subst, ◌∙◌, arith, inl, inr}
 use Rattle.std.proofs.Common.{get_or-set_same, get_or-set_other}
 use Rattle.std.proofs.lemmas.Bool.{cases_lt, lt-ltb, le-ltb, eqb-true, eqb-false}
 use Rattle.std.proofs.lemmas.List.{length-set}
 use Rattle.edge_info.specs.Texts.{first_place}
-use Rattle.edge_info.specs.TextReading.{any_below, out_of_order, all_named}
+use Rattle.edge_info.specs.TextReading.{any_below, out_of_order}
 use Rattle.edge_info.specs.TextLoops.{with_place, ArePlaces, IsFirstLate}
 
 -- of the texts from `left` on, those before `found` are in order, and this one is not where it is one of them

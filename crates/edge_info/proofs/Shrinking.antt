@@ -1,7 +1,6 @@
 -- A reading that does not fail leaves fewer bytes.
-use Rattle.std.proofs.Common.{◌≡◌, ℕ, zero, suc, ◌+◌, ◌-◌, ◌<◌, ◌≤◌, Bool, true, false, cond, ltb, leb, List, [], ◌∷◌, ◌++◌, length, drop, Result, Ok, Err, refl, sym, ap, subst, ◌∙◌, arith}
+use Rattle.std.proofs.Common.{◌≡◌, ℕ, zero, suc, ◌<◌, ◌≤◌, cond, ltb, leb, List, [], ◌∷◌, ◌++◌, length, drop, Result, Ok, Err, ap, arith}
 use Rattle.std.proofs.lemmas.List.{length-drop}
-use Rattle.fixed_geo.specs.declared.points.Point.{Point}
 use Rattle.osm_model.specs.declared.piece_key.PieceKey.{PieceKey}
 use Rattle.section_grammar.specs.WordBytes.{half_in}
 use Rattle.section_grammar.specs.Reads.{◌>>=◌, read_many}

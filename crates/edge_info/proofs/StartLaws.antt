@@ -1,16 +1,16 @@
 -- Where entries start, and binary search among offsets that rise.
-use Rattle.std.proofs.Common.{◌≡◌, ℕ, zero, suc, ◌+◌, ◌*◌, ◌<◌, ◌≤◌, Bool, true, false, eqb, ◌||◌, List, [], ◌∷◌, ◌++◌, length, take, get_or, Result, Ok, Err, refl, sym, ap, subst, ◌∙◌, arith, inl, inr}
+use Rattle.std.proofs.Common.{◌≡◌, ℕ, zero, suc, ◌+◌, ◌*◌, ◌<◌, ◌≤◌, Bool, true, false, eqb, ◌||◌, List, [], ◌∷◌, ◌++◌, length, take, get_or, Result, Ok, Err, refl, sym, ap, ◌∙◌, arith, inl, inr}
 use Rattle.std.specs.Prelude.{MatchResult, is_ok}
 use Rattle.std.specs.List.{flat_map}
 use Rattle.std.specs.Int.{w32, w64, cast_unsigned}
 use Rattle.std.proofs.lemmas.Bool.{eq-eqb, ne_eqb, cases_lt}
-use Rattle.std.proofs.lemmas.List.{length-append, append-nil}
+use Rattle.std.proofs.lemmas.List.{length-append}
 use Rattle.std.proofs.lemmas.List.Concat.{flat_map-cons}
 use Rattle.fixed_geo.specs.declared.points.Point.{Point}
 use Rattle.section_grammar.specs.WordBytes.{word_bytes, half_bytes}
 use Rattle.section_grammar.proofs.WordLaws.{word_length, half_length, halves_bytes-length}
 use Rattle.edge_info.specs.declared.infos.Info.{Info}
-use Rattle.edge_info.specs.Entries.{key_bytes, point_bytes, counted_bytes, info_bytes, infos_bytes, starts_from, starts_of, starts_at}
+use Rattle.edge_info.specs.Entries.{key_bytes, point_bytes, info_bytes, infos_bytes, starts_from, starts_of, starts_at}
 
 point_length : (p : Point) → length (point_bytes p) ≡ 8
 unfolding point_bytes

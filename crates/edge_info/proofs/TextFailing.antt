@@ -1,5 +1,5 @@
 -- The first text that fails.
-use Rattle.std.proofs.Common.{◌≡◌, ℕ, zero, suc, ◌+◌, ◌-◌, ◌<◌, ◌≤◌, Bool, true, false, cond, eqb, ltb, leb, ◌&&◌, not, List, [], ◌∷◌, ◌++◌, length, Result, Ok, Err, refl, sym, ap, subst, ◌∙◌, arith, inl, inr, ◌⊎◌}
+use Rattle.std.proofs.Common.{◌≡◌, ℕ, zero, suc, ◌+◌, ◌-◌, ◌<◌, ◌≤◌, true, false, cond, eqb, ltb, ◌&&◌, not, List, [], ◌++◌, length, Result, Ok, Err, refl, sym, ap, subst, ◌∙◌, arith, inl, inr}
 use Rattle.std.proofs.lemmas.Bool.{cases_lt, eq-eqb, ne_eqb, eqb-true, eqb-false, lt-ltb, le-ltb, ltb-true, ltb-false}
 use Rattle.std.proofs.lemmas.List.{nil_from_length, length-append}
 use Rattle.section_grammar.specs.WordBytes.{IsByteList}
@@ -8,8 +8,8 @@ use Rattle.section_grammar.specs.Answers.{FailedCheck, Check, place_of, ended}
 use Rattle.section_grammar.proofs.ByteLists.{IsByteList-rest}
 use Rattle.edge_info.specs.Texts.{text_bytes, texts_bytes, first_place, TextGood}
 use Rattle.edge_info.specs.TextReading.{has_text, text_in, after_text, texts_there, any_below, out_of_order, is_new_text, bad_text, text_at, all_named, texts_at}
-use Rattle.edge_info.specs.Checks.{IsInPlace, NoTextFollows, TextsGoOn, TextUnnamed, TextFails}
-use Rattle.edge_info.proofs.Failing.{OnlyFails, only_test, says, Failed, many_fails, many_fails_again}
+use Rattle.edge_info.specs.Checks.{IsInPlace, TextFails}
+use Rattle.edge_info.proofs.Failing.{OnlyFails, only_test, says, many_fails, many_fails_again}
 use Rattle.edge_info.proofs.TextLaws.{InOrder, text_reader, text_section, none_below, all_above, second_of, all_good, orders, with_orders}
 
 text_says : (end : ℕ) (names : List ℕ) (there : ℕ) (before : List (List ℕ)) (rest : List ℕ) → OnlyFails (bad_text end rest) (text_at end names there before rest)

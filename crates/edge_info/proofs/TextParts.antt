@@ -1,15 +1,13 @@
 -- Texts at the front of bytes, and those that stand one behind the other.
-use Rattle.std.proofs.Common.{◌≡◌, ℕ, zero, suc, ◌+◌, ◌-◌, ◌^◌, ◌<◌, ◌≤◌, Bool, true, false, cond, ltb, leb, eqb, ◌&&◌, not, List, [], ◌∷◌, ◌++◌, length, get_or, take, drop, Result, Ok, Err, Option, Some, None, refl, sym, ap, subst, ◌∙◌, append_assoc, arith, inl, inr}
-use Rattle.std.specs.Prelude.{MatchResult, MatchOption}
+use Rattle.std.proofs.Common.{◌≡◌, ℕ, zero, suc, ◌+◌, ◌-◌, ◌^◌, ◌<◌, ◌≤◌, Bool, true, false, cond, ltb, eqb, ◌&&◌, not, List, [], ◌∷◌, ◌++◌, length, get_or, Result, Ok, Err, refl, sym, ap, subst, ◌∙◌, arith, inl, inr}
 use Rattle.std.specs.Str.{is_utf8, IsUtf8, bytes_eq}
 use Rattle.std.specs.List.{list_any, list_all}
-use Rattle.std.proofs.lemmas.Str.{IsUtf8-from_is_utf8, is_utf8-from_IsUtf8}
-use Rattle.std.proofs.lemmas.Bool.{and_parts, ltb-true, ltb-false, lt-ltb, le-ltb, leb-true, le-leb, ne_eqb, eq-eqb, eqb-false, cases_lt}
-use Rattle.section_grammar.specs.WordBytes.{half_in}
+use Rattle.std.proofs.lemmas.Str.{IsUtf8-from_is_utf8}
+use Rattle.std.proofs.lemmas.Bool.{lt-ltb, le-ltb, ne_eqb, eq-eqb, cases_lt}
 use Rattle.section_grammar.specs.declared.fault.SectionFault.{SectionFault}
 use Rattle.section_grammar.specs.declared.fault.SectionFault.TheVariants as faults
-use Rattle.section_grammar.specs.Reads.{◌>>=◌, read_many}
-use Rattle.section_grammar.specs.Answers.{FailedCheck, Check, Fails, Gives, place_of}
+use Rattle.section_grammar.specs.Reads.{read_many}
+use Rattle.section_grammar.specs.Answers.{FailedCheck, Check, Fails, place_of}
 use Rattle.section_grammar.proofs.Steps.{bind_ok, passed_ok, ok_is}
 use Rattle.edge_info.specs.Texts.{first_place}
 use Rattle.edge_info.specs.TextLoops.{IsFirstLate, ArePlaces}

@@ -5,7 +5,7 @@ use Rattle.std.specs.Int.{w32, w64, cast_unsigned}
 use Rattle.fixed_geo.specs.Place.{IsPlace}
 use Rattle.fixed_geo.specs.declared.points.Point.{Point}
 use Rattle.osm_model.specs.declared.piece_key.PieceKey.{PieceKey}
-use Rattle.section_grammar.specs.WordBytes.{word_bytes, half_bytes, halves_bytes}
+use Rattle.section_grammar.specs.WordBytes.{word_bytes, half_bytes}
 use Rattle.section_grammar.specs.Reads.{AllGood}
 use Rattle.edge_info.specs.declared.infos.Info.{Info}
 

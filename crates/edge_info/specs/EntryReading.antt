@@ -1,5 +1,5 @@
 -- Reading entries, up to the first that is none. All that is wrong with an entry is said of the entry's offset.
-use Rattle.std.specs.Prelude.{ℕ, nat_lt, nat_le, ◌<◌, ℤ, int_le, pos, neg_ℤ, ◌&&◌, Bool, List, [], ◌∷◌, length, drop, Result, Ok, Err, if◌then◌else◌}
+use Rattle.std.specs.Prelude.{ℕ, nat_lt, nat_le, int_le, pos, neg_ℤ, ◌&&◌, Bool, List, [], length, drop, Result, Ok, Err, if◌then◌else◌}
 use Rattle.std.specs.Int.{w32, w64, cast_signed}
 use Rattle.fixed_geo.specs.declared.points.Point.{Point}
 use Rattle.osm_model.specs.declared.piece_key.PieceKey.{PieceKey}

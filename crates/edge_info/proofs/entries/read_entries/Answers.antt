@@ -1,10 +1,9 @@
-use Rattle.std.proofs.Common.{◌≡◌, ◌++◌, ◌∷◌, [], ℕ, ◌<◌, length, arith, rules, sym, ap, ◌∙◌}
+use Rattle.std.proofs.Common.{rules}
 use Rattle.std.proofs.lemmas.Result.{err_from_is_err_and}
-use Rattle.section_grammar.specs.Reads.{read_all}
 use Rattle.section_grammar.proofs.Steps.{all_goes_on, all_ends, all_done}
 use Rattle.edge_info.specs.EntryReading.{entry_at, entries_at}
 use Rattle.edge_info.proofs.Shrinking.{entry_shrinks}
-use Rattle.edge_info.proofs.EntryParts.{key_rises-push, not_empty}
+use Rattle.edge_info.proofs.EntryParts.{key_rises-push}
 use Rattle.edge_info.proofs.entries.read_entries.Goals as goal
 
 pub returns-in_err-info : goal.returns-in_err-info

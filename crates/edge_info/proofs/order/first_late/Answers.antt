@@ -1,4 +1,4 @@
-use Rattle.std.proofs.Common.{◌≡◌, ◌≤◌, ℕ, length, arith, rules, sym, subst, ap, ltb, ◌-◌}
+use Rattle.std.proofs.Common.{◌≡◌, length, arith, subst}
 use Rattle.edge_info.proofs.OrderLaws.{least_none, least_step, late_none, late_step, first_late, LateFrom}
 use Rattle.edge_info.proofs.order.first_late.Goals as goal
 

@@ -1,4 +1,4 @@
-use Rattle.std.proofs.Common.{◌≡◌, arith, rules}
+use Rattle.std.proofs.Common.{arith}
 use Rattle.edge_info.proofs.OrderLaws.{places_step}
 use Rattle.edge_info.proofs.order.first_places.Goals as goal
 

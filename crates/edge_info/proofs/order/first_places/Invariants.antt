@@ -1,4 +1,4 @@
-use Rattle.std.proofs.Common.{◌≡◌, ◌≤◌, length}
+use Rattle.std.proofs.Common.{◌≤◌, length}
 use Rattle.edge_info.specs.TextLoops.{ArePlaces}
 use Rattle.edge_info.proofs.order.first_places.Given as goal
 

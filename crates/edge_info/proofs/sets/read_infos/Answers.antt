@@ -1,6 +1,6 @@
-use Rattle.std.proofs.Common.{◌≡◌, arith, subst, Ok}
+use Rattle.std.proofs.Common.{arith, subst}
 use Rattle.section_grammar.specs.Answers.{Gives}
-use Rattle.edge_info.specs.InfoSets.{info_set_at, SpellsInfos}
+use Rattle.edge_info.specs.InfoSets.{info_set_at}
 use Rattle.edge_info.proofs.InfoLaws.{is_found}
 use Rattle.edge_info.proofs.sets.read_infos.Goals as goal
 

@@ -1,4 +1,4 @@
-use Rattle.std.proofs.Common.{◌≡◌, ◌+◌, ◌++◌, ◌∷◌, [], length, take, arith, sym, ap, ◌∙◌}
+use Rattle.std.proofs.Common.{◌+◌, ◌++◌, ◌∷◌, [], arith, sym, ap, ◌∙◌}
 use Rattle.edge_info.proofs.StartLaws.{size_step, size_le, starts_step}
 use Rattle.edge_info.proofs.starts.entry_starts.Goals as goal
 

@@ -1,4 +1,4 @@
-use Rattle.std.proofs.Common.{◌≡◌, length, arith}
+use Rattle.std.proofs.Common.{arith}
 use Rattle.edge_info.proofs.StartLaws.{info_length}
 use Rattle.edge_info.proofs.starts.size_of.Goals as goal
 

@@ -1,4 +1,4 @@
-use Rattle.std.proofs.Common.{◌≡◌, ◌+◌, ◌-◌, arith, refl}
+use Rattle.std.proofs.Common.{◌-◌, arith, refl}
 use Rattle.edge_info.proofs.TextParts.{there_none, there_one, there_zero}
 use Rattle.edge_info.proofs.texts.count_there.Goals as goal
 

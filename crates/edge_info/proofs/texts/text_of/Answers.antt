@@ -1,7 +1,7 @@
-use Rattle.std.proofs.Common.{◌≡◌, ◌<◌, ◌≤◌, length, arith, rules, sym, subst, ap, ◌∙◌, Ok, true, false}
+use Rattle.std.proofs.Common.{◌≡◌, ◌<◌, length, rules, sym, subst, ◌∙◌, true, false}
 use Rattle.std.specs.List.{list_any}
 use Rattle.std.specs.Str.{is_utf8, bytes_eq}
-use Rattle.edge_info.specs.TextReading.{text_in, after_text, text_at}
+use Rattle.edge_info.specs.TextReading.{text_in, text_at}
 use Rattle.edge_info.proofs.TextParts.{not_whole, is_empty, no_utf8, not_new, is_late, is_fine, fails_so}
 use Rattle.edge_info.proofs.texts.text_of.Goals as goal
 
