@@ -1,0 +1,18 @@
+//! Tiles as files, both ways: each tile has one spelling, and the reader answers the tile that bytes spell, or the
+//! first check that fails and its place.
+#![tactic(auto)]
+
+mod chains;
+mod front;
+mod header;
+mod ids;
+mod items;
+mod sequences;
+mod spans;
+
+pub use chains::Chains;
+pub use front::Front;
+pub use header::{Header, MODES, MOST_RECORDS, SIGNATURE};
+pub use ids::{Ids, LevelRule};
+pub use items::{EdgeRecs, NodeRecs};
+pub use sequences::{FEWEST_EDGES, MOST_EDGES, Sequence, Sequences, VEHICLES};
