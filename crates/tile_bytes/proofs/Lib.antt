@@ -1,2 +1,4 @@
 pub mod SpanLaws
 pub mod RowLaws
+pub mod SumLaws
+pub mod RecordSteps

@@ -3,6 +3,7 @@ pub mod SequenceRows
 pub mod Modes
 pub mod Header
 pub mod Items
+pub mod Sums
 pub mod Chains
 pub mod Sequences
-pub mod Front
+pub mod TileSections

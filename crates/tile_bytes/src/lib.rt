@@ -3,7 +3,6 @@
 #![tactic(auto)]
 
 mod chains;
-mod front;
 mod header;
 mod ids;
 mod items;
@@ -11,7 +10,6 @@ mod sequences;
 mod spans;
 
 pub use chains::Chains;
-pub use front::Front;
 pub use header::{Header, MODES, MOST_RECORDS, SIGNATURE};
 pub use ids::{Ids, LevelRule};
 pub use items::{EdgeRecs, NodeRecs};

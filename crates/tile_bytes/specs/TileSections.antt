@@ -1,4 +1,4 @@
--- The sections of a tile file from the nodes to the sequences, read in their order.
+-- The sections of a tile file from the nodes to the sequences, read in their order. `end` is the length of the file.
 use Rattle.std.specs.Prelude.{◌≡◌, ℕ, ◌+◌, ◌*◌, ◌&&◌, ◌==◌, List, [], length, take, drop, Result, Ok, Err, if◌then◌else◌}
 use Rattle.graph_id.specs.GraphId.{level_of, tile_of_id}
 use Rattle.tile_records.specs.Nodes.{NodeFields}
@@ -8,7 +8,6 @@ use Rattle.section_grammar.specs.Answers.{FailedCheck, Check, place_of}
 use Rattle.tile_bytes.specs.declared.ids.LevelRule.TheVariants as rules
 use Rattle.tile_bytes.specs.declared.header.Header.{Header}
 use Rattle.tile_bytes.specs.declared.sequences.Sequence.{Sequence}
-use Rattle.tile_bytes.specs.declared.front.Front.{Front}
 use Rattle.tile_bytes.specs.Items.{edges_of_nodes, transitions_of_nodes, node_at, edge_at, id_at}
 use Rattle.tile_bytes.specs.Chains.{chains_at, named_chains, chain_offsets, offsets_at}
 use Rattle.tile_bytes.specs.Sequences.{sequences_at}
@@ -19,42 +18,41 @@ nodes_at end h rest =
     read_many (node_at (level_of h.id) (tile_of_id h.id) end) h.nodes [] rest >>= λ x.
     if edges_of_nodes x.0 == h.edges && transitions_of_nodes x.0 == h.transitions then Ok x else Err (Check 8 (place_of end x.1))
 
--- so many words of a section, and what follows them
+unfoldable pub edges_at : ℕ → Header → List ℕ → Result (List EdgeFields × List ℕ) FailedCheck
+edges_at end h rest = read_many (edge_at (level_of h.id) end) h.edges [] rest
+
+unfoldable pub transitions_at : ℕ → Header → List ℕ → Result (List ℕ × List ℕ) FailedCheck
+transitions_at end h rest = read_many (id_at (rules.Except (level_of h.id)) 10 end) h.transitions [] rest
+
+-- the sections of a fixed number of records
+pub record TileRecords : Type 0 where
+  pub nodes : List NodeFields
+  pub edges : List EdgeFields
+  pub transitions : List ℕ
+
+abbrev pub with_transitions : ℕ → Header → List NodeFields → List EdgeFields → List ℕ → Result (TileRecords × List ℕ) FailedCheck
+with_transitions end h nodes edges rest =
+    transitions_at end h rest >>= λ x. Ok (record { nodes = nodes; edges = edges; transitions = x.0 }, x.1)
+
+abbrev pub with_edges : ℕ → Header → List NodeFields → List ℕ → Result (TileRecords × List ℕ) FailedCheck
+with_edges end h nodes rest = edges_at end h rest >>= λ x. with_transitions end h nodes x.0 x.1
+
+unfoldable pub records_at : ℕ → Header → List ℕ → Result (TileRecords × List ℕ) FailedCheck
+records_at end h rest = nodes_at end h rest >>= λ x. with_edges end h x.0 x.1
+
+-- a section of so many words, and what follows it
 abbrev pub section_of_words : ℕ → List ℕ → List ℕ
 section_of_words words rest = take (8 * words) rest
 
 abbrev pub behind_words : ℕ → List ℕ → List ℕ
 behind_words words rest = drop (8 * words) rest
 
--- the chains of these edges, each at the place that its shortcut says
+-- the chains of these edges, each of which begins where its shortcut says
 unfoldable pub chains_of : ℕ → Header → List EdgeFields → List ℕ → Result (List (List ℕ)) FailedCheck
 chains_of end h edges rest =
     chains_at (level_of h.id) (place_of end (behind_words h.chain_words rest)) (length (named_chains edges)) (section_of_words h.chain_words rest) >>= λ chains.
     offsets_at (64 + 32 * h.nodes) edges (chain_offsets 0 chains) >>= λ _.
     Ok chains
 
--- the sequences, and all of these sections
-unfoldable pub with_sequences : ℕ → Header → List NodeFields → List EdgeFields → List ℕ → List (List ℕ) → List ℕ → Result (Front × List ℕ) FailedCheck
-with_sequences end h nodes edges transitions chains rest =
-    sequences_at (place_of end (behind_words h.sequence_words rest)) (section_of_words h.sequence_words rest) >>= λ sequences.
-    Ok (record { nodes = nodes; edges = edges; transitions = transitions; chains = chains; sequences = sequences }, behind_words h.sequence_words rest)
-
-unfoldable pub with_chains : ℕ → Header → List NodeFields → List EdgeFields → List ℕ → List ℕ → Result (Front × List ℕ) FailedCheck
-with_chains end h nodes edges transitions rest =
-    chains_of end h edges rest >>= λ chains.
-    with_sequences end h nodes edges transitions chains (behind_words h.chain_words rest)
-
-unfoldable pub with_transitions : ℕ → Header → List NodeFields → List EdgeFields → List ℕ → Result (Front × List ℕ) FailedCheck
-with_transitions end h nodes edges rest =
-    read_many (id_at (rules.Except (level_of h.id)) 10 end) h.transitions [] rest >>= λ x.
-    with_chains end h nodes edges x.0 x.1
-
-unfoldable pub with_edges : ℕ → Header → List NodeFields → List ℕ → Result (Front × List ℕ) FailedCheck
-with_edges end h nodes rest =
-    read_many (edge_at (level_of h.id) end) h.edges [] rest >>= λ x.
-    with_transitions end h nodes x.0 x.1
-
-unfoldable pub front_at : ℕ → Header → List ℕ → Result (Front × List ℕ) FailedCheck
-front_at end h rest =
-    nodes_at end h rest >>= λ x.
-    with_edges end h x.0 x.1
+unfoldable pub sequences_of : ℕ → Header → List ℕ → Result (List Sequence) FailedCheck
+sequences_of end h rest = sequences_at (place_of end (behind_words h.sequence_words rest)) (section_of_words h.sequence_words rest)
