@@ -2,3 +2,9 @@ pub mod SpanLaws
 pub mod RowLaws
 pub mod SumLaws
 pub mod RecordSteps
+pub mod OffsetLaws
+pub mod WordLists
+pub mod IdLaws
+pub mod SequenceSteps
+pub mod RecordLaws
+pub mod NodeEdgeLaws

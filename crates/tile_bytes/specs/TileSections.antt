@@ -7,10 +7,8 @@ use Rattle.section_grammar.specs.Reads.{◌>>=◌, read_many}
 use Rattle.section_grammar.specs.Answers.{FailedCheck, Check, place_of}
 use Rattle.tile_bytes.specs.declared.ids.LevelRule.TheVariants as rules
 use Rattle.tile_bytes.specs.declared.header.Header.{Header}
-use Rattle.tile_bytes.specs.declared.sequences.Sequence.{Sequence}
 use Rattle.tile_bytes.specs.Items.{edges_of_nodes, transitions_of_nodes, node_at, edge_at, id_at}
 use Rattle.tile_bytes.specs.Chains.{chains_at, named_chains, chain_offsets, offsets_at}
-use Rattle.tile_bytes.specs.Sequences.{sequences_at}
 
 -- the nodes; where their counts don't add up to the header's, the place is their end
 unfoldable pub nodes_at : ℕ → Header → List ℕ → Result (List NodeFields × List ℕ) FailedCheck
@@ -47,12 +45,9 @@ section_of_words words rest = take (8 * words) rest
 abbrev pub behind_words : ℕ → List ℕ → List ℕ
 behind_words words rest = drop (8 * words) rest
 
--- the chains of these edges, each of which begins where its shortcut says
-unfoldable pub chains_of : ℕ → Header → List EdgeFields → List ℕ → Result (List (List ℕ)) FailedCheck
-chains_of end h edges rest =
-    chains_at (level_of h.id) (place_of end (behind_words h.chain_words rest)) (length (named_chains edges)) (section_of_words h.chain_words rest) >>= λ chains.
+-- the chains of these edges, each of which begins where its shortcut says; they fill the section, which ends at a place
+unfoldable pub chains_in_place : Header → List EdgeFields → ℕ → List ℕ → Result (List (List ℕ)) FailedCheck
+chains_in_place h edges end section =
+    chains_at (level_of h.id) end (length (named_chains edges)) section >>= λ chains.
     offsets_at (64 + 32 * h.nodes) edges (chain_offsets 0 chains) >>= λ _.
     Ok chains
-
-unfoldable pub sequences_of : ℕ → Header → List ℕ → Result (List Sequence) FailedCheck
-sequences_of end h rest = sequences_at (place_of end (behind_words h.sequence_words rest)) (section_of_words h.sequence_words rest)

@@ -2,10 +2,14 @@
 //! first check that fails and its place.
 #![tactic(auto)]
 
+mod chain_section;
 mod chains;
 mod header;
 mod ids;
 mod items;
+mod laws;
+mod record_sections;
+mod sequence_section;
 mod sequences;
 mod spans;
 
@@ -13,4 +17,5 @@ pub use chains::Chains;
 pub use header::{Header, MODES, MOST_RECORDS, SIGNATURE};
 pub use ids::{Ids, LevelRule};
 pub use items::{EdgeRecs, NodeRecs};
+pub use laws::{edges_law, nodes_law};
 pub use sequences::{FEWEST_EDGES, MOST_EDGES, Sequence, Sequences, VEHICLES};
