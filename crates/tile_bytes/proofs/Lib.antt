@@ -8,3 +8,5 @@ pub mod IdLaws
 pub mod SequenceSteps
 pub mod RecordLaws
 pub mod NodeEdgeLaws
+pub mod ChainLaws
+pub mod SequenceLaws

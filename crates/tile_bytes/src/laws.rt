@@ -1,7 +1,11 @@
 //! Each section is read as it was written, and was written as it is read.
 ghost use Rattle.std.specs.Prelude.{◌≡◌, ℕ, List, Ok};
-ghost use Rattle.section_grammar.specs.Sections.{IsSection};
-ghost use Rattle.tile_bytes.specs.Items.{node_at, node_bytes, IsNode, edge_at, edge_bytes, IsEdge};
+ghost use Rattle.section_grammar.specs.Sections.{IsSection, FillsSection};
+ghost use Rattle.tile_bytes.specs.Items.{node_at, node_bytes, IsNode, edge_at, edge_bytes, IsEdge, id_at, IsId};
+ghost use Rattle.tile_bytes.specs.declared.ids.LevelRule.{LevelRule};
+ghost use Rattle.section_grammar.specs.WordBytes.{word_bytes};
+ghost use Rattle.tile_bytes.specs.Chains.{chain_at, chain_bytes, IsChain};
+ghost use Rattle.tile_bytes.specs.Sequences.{sequence_at, sequence_bytes, IsSequence};
 
 use tile_records::{edge_law, node_law};
 
@@ -18,3 +22,18 @@ pub fn edges_law()
 {
     edge_law();
 }
+
+/// GraphIds.
+pub fn ids_law()
+    ensures { (rule : LevelRule) (check end : ℕ) → IsSection (id_at rule check end) word_bytes (IsId rule) }
+{}
+
+/// The section of chains.
+pub fn chains_law()
+    ensures { (level end : ℕ) → IsSection (chain_at level end) chain_bytes (IsChain level) }
+{}
+
+/// The section of sequences.
+pub fn sequences_law()
+    ensures { (end : ℕ) → FillsSection (sequence_at end) sequence_bytes IsSequence }
+{}

@@ -17,5 +17,5 @@ pub use chains::Chains;
 pub use header::{Header, MODES, MOST_RECORDS, SIGNATURE};
 pub use ids::{Ids, LevelRule};
 pub use items::{EdgeRecs, NodeRecs};
-pub use laws::{edges_law, nodes_law};
+pub use laws::{chains_law, edges_law, ids_law, nodes_law, sequences_law};
 pub use sequences::{FEWEST_EDGES, MOST_EDGES, Sequence, Sequences, VEHICLES};
