@@ -1,8 +1,7 @@
 -- Words and edges determine each other.
-use Rattle.std.proofs.Common.{◌≡◌, ℕ, ◌+◌, ◌*◌, ◌/◌, ◌%◌, ◌^◌, ◌<◌, List, [], ◌∷◌, get_or, refl, sym, ap, ◌∙◌, arith, eqb, lit≤}
+use Rattle.std.proofs.Common.{◌≡◌, ℕ, ◌/◌, ◌%◌, ◌^◌, ◌<◌, List, get_or, refl, sym, ap, ◌∙◌, arith, eqb, lit≤}
 use Rattle.std.proofs.lemmas.Nat.{mod_below}
 use Rattle.std.specs.Int.{from_bool}
-use Rattle.graph_id.specs.GraphId.{invalid}
 use Rattle.bit_words.specs.Bits.{word_of, FieldsFit, widths_of, total_width, fields_from}
 use Rattle.tile_records.specs.Layout.{AreWords, number_in, fields_of_word, used_bits}
 use Rattle.tile_records.specs.Edges.{EdgeFields, EdgeFits, edge_layout, edge_spans, edge_parts, edge_words, edge_of, AreEdgeWords}
