@@ -5,6 +5,7 @@ use Rattle.graph_id.specs.GraphId.{level_of, tile_of_id, id_of, invalid}
 use Rattle.tile_geometry.specs.Grid.{tile_count, corner}
 use Rattle.section_grammar.specs.WordBytes.{words_in, words_bytes}
 use Rattle.section_grammar.specs.Answers.{FailedCheck, Check}
+use Rattle.edge_info.specs.InfoSets.{gap}
 use Rattle.tile_bytes.specs.declared.header.Header.{Header}
 use Rattle.tile_bytes.specs.declared.header.TheConstants.{SIGNATURE, MOST_RECORDS, MODES}
 use Rattle.tile_bytes.specs.Modes.{is_within}
@@ -16,15 +17,11 @@ low_half word = word % 2 ^ 32
 abbrev pub high_half : ℕ → ℕ
 high_half word = word / 2 ^ 32
 
--- how many zero bytes lead to a multiple of 8
-abbrev pub padding_after : ℕ → ℕ
-padding_after bytes = (8 - bytes % 8) % 8
-
 -- the bytes of the file: the header, the sections and the padding
 abbrev pub file_size : Header → ℕ
 file_size h =
     64 + 32 * h.nodes + 32 * h.edges + 8 * h.transitions + 8 * h.chain_words + 8 * h.sequence_words + (h.info_bytes + h.text_bytes)
-    + padding_after (h.info_bytes + h.text_bytes)
+    + gap (h.info_bytes + h.text_bytes)
 
 -- what eight words say
 abbrev pub header_of : List ℕ → Header

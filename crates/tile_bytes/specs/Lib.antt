@@ -7,3 +7,5 @@ pub mod Sums
 pub mod Chains
 pub mod Sequences
 pub mod TileSections
+pub mod Tiles
+pub mod TileReading

@@ -12,6 +12,7 @@ mod record_sections;
 mod sequence_section;
 mod sequences;
 mod spans;
+mod tile;
 
 pub use chains::Chains;
 pub use header::{Header, MODES, MOST_RECORDS, SIGNATURE};
@@ -19,3 +20,4 @@ pub use ids::{Ids, LevelRule};
 pub use items::{EdgeRecs, NodeRecs};
 pub use laws::{chains_law, edges_law, ids_law, nodes_law, sequences_law};
 pub use sequences::{FEWEST_EDGES, MOST_EDGES, Sequence, Sequences, VEHICLES};
+pub use tile::Tile;
