@@ -15,7 +15,7 @@ use Rattle.section_grammar.proofs.WordLaws.{word_length, half_length}
 use Rattle.section_grammar.proofs.Steps.{bind_ok, ok_is}
 use Rattle.section_grammar.proofs.Sections.{section_of, filling_of}
 use Rattle.edge_info.specs.declared.infos.Info.{Info}
-use Rattle.edge_info.specs.Entries.{key_bytes, point_bytes, counted_bytes, info_bytes, infos_bytes, KeyFits, key_rises, InfoGood, AreInfos}
+use Rattle.edge_info.specs.Entries.{key_bytes, point_bytes, counted_bytes, info_bytes, infos_bytes, KeyFits, key_rises, InfoGood, AreInfos, IsSized}
 use Rattle.edge_info.specs.EntryReading.{bad_entry, key_at, point_at, name_at, counted_at, entry_at, entries_at}
 use Rattle.edge_info.proofs.EntryParts.{NameGood, point_reader, name_reader, key_takes, key_again, counted_takes, counted_again}
 
@@ -65,8 +65,8 @@ entry_takes end count before rest x after fits e =
       names = all_of (λ name. (name < count) × (name < 2 ^ 32)) [] n.0.0 names.2;
     } in
     let back : rest ≡ (key_bytes a.0.0 ++ (counted_bytes point_bytes b.0.0 ++ counted_bytes half_bytes n.0.0)) ++ n.0.1 =
-        key.2 ∙ ap (λ t. key_bytes a.0.0 ++ t) (points.3 ∙ ap (λ t. counted_bytes point_bytes b.0.0 ++ t) names.3)
-        ∙ sym (three (key_bytes a.0.0) (counted_bytes point_bytes b.0.0) (counted_bytes half_bytes n.0.0) n.0.1) in
+    key.2 ∙ ap (λ t. key_bytes a.0.0 ++ t) (points.3 ∙ ap (λ t. counted_bytes point_bytes b.0.0 ++ t) names.3)
+    ∙ sym (three (key_bytes a.0.0) (counted_bytes point_bytes b.0.0) (counted_bytes half_bytes n.0.0) n.0.1) in
     subst (λ (t : Info × List ℕ). InfoGood count before t.0 × (rest ≡ (key_bytes t.0.key ++ (counted_bytes point_bytes t.0.shape ++ counted_bytes half_bytes t.0.texts)) ++ t.1)) same (good, back)
 
 -- the parts that are read one after the other
@@ -112,3 +112,11 @@ entries_found end count section infos fits e = (entry_filling end count).filled 
 pub entries_again : (end count : ℕ) (infos : List Info) → AreInfos count infos → entries_at end count (infos_bytes infos) ≡ Ok infos
 unfolding entries_at
 entries_again end count infos good = (entry_filling end count).refilled (length (infos_bytes infos)) infos good (omega arith)
+
+sized_at : (count : ℕ) (before infos : List Info) → AllGood (InfoGood count) before infos → (k : ℕ) (d : Info) → k < length infos → IsSized (get_or infos k d)
+sized_at count before [] h k d lt = absurd (omega arith)
+sized_at count before (x ∷ xs) h zero d lt = (h.0.few_points, h.0.few_names)
+sized_at count before (x ∷ xs) h (suc k) d lt = sized_at count (before ++ x ∷ []) xs h.1 k d (omega arith)
+
+pub infos_sized : (count : ℕ) (infos : List Info) → AreInfos count infos → All IsSized infos
+infos_sized count infos h = λ k d lt. sized_at count [] infos h k d lt

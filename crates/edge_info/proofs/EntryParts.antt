@@ -73,10 +73,10 @@ point_takes bad before rest x after fits e =
     let lat : cast_unsigned w32 p.lat ≡ half_in rest = of_z-to_z w32 (half_in rest) (half_below rest fits) in
     let lon : cast_unsigned w32 p.lon ≡ half_in (drop 4 rest) = of_z-to_z w32 (half_in (drop 4 rest)) (half_below (drop 4 rest) (IsByteList-drop 4 rest fits)) in
     let back : rest ≡ (half_bytes (cast_unsigned w32 p.lat) ++ half_bytes (cast_unsigned w32 p.lon)) ++ drop 4 (drop 4 rest) =
-        two_halves rest fits f.0
-        ∙ ap (λ n. half_bytes n ++ (half_bytes (half_in (drop 4 rest)) ++ drop 4 (drop 4 rest))) (sym lat)
-        ∙ ap (λ n. half_bytes (cast_unsigned w32 p.lat) ++ (half_bytes n ++ drop 4 (drop 4 rest))) (sym lon)
-        ∙ sym (append_assoc (half_bytes (cast_unsigned w32 p.lat)) (half_bytes (cast_unsigned w32 p.lon)) (drop 4 (drop 4 rest))) in
+    two_halves rest fits f.0
+    ∙ ap (λ n. half_bytes n ++ (half_bytes (half_in (drop 4 rest)) ++ drop 4 (drop 4 rest))) (sym lat)
+    ∙ ap (λ n. half_bytes (cast_unsigned w32 p.lat) ++ (half_bytes n ++ drop 4 (drop 4 rest))) (sym lon)
+    ∙ sym (append_assoc (half_bytes (cast_unsigned w32 p.lat)) (half_bytes (cast_unsigned w32 p.lon)) (drop 4 (drop 4 rest))) in
     subst (λ (t : Point × List ℕ). IsPlace t.0 × (rest ≡ (half_bytes (cast_unsigned w32 t.0.lat) ++ half_bytes (cast_unsigned w32 t.0.lon)) ++ t.1)) f.2 (placed p f.1, back)
 
 same_point : {a a' b b' : ℤ} → a ≡ a' → b ≡ b' → ◌≡◌ {A = Point} (record { lat = a; lon = b }) (record { lat = a'; lon = b' })
@@ -145,10 +145,10 @@ key_takes bad before rest x after fits e =
     let way : cast_unsigned w64 k.way ≡ word_in rest = of_z-to_z w64 (word_in rest) (word_below rest fits) in
     let halves = two_halves tail tail_fits (omega (arith, f.0, length-drop 8 rest)) in
     let back : rest ≡ (word_bytes (cast_unsigned w64 k.way) ++ (half_bytes k.run ++ half_bytes k.piece)) ++ left =
-        sym (word_takes rest fits (omega (arith, f.0)))
-        ∙ ap (λ n. word_bytes n ++ tail) (sym way)
-        ∙ ap (λ t. word_bytes (cast_unsigned w64 k.way) ++ t) (halves ∙ sym (append_assoc (half_bytes k.run) (half_bytes k.piece) left))
-        ∙ sym (append_assoc (word_bytes (cast_unsigned w64 k.way)) (half_bytes k.run ++ half_bytes k.piece) left) in
+    sym (word_takes rest fits (omega (arith, f.0)))
+    ∙ ap (λ n. word_bytes n ++ tail) (sym way)
+    ∙ ap (λ t. word_bytes (cast_unsigned w64 k.way) ++ t) (halves ∙ sym (append_assoc (half_bytes k.run) (half_bytes k.piece) left))
+    ∙ sym (append_assoc (word_bytes (cast_unsigned w64 k.way)) (half_bytes k.run ++ half_bytes k.piece) left) in
     let good : KeyFits k = record { way = sfits_to_z (Fits-of_lt (word_below rest fits)); run = half_below tail tail_fits; piece = half_below (drop 4 tail) (IsByteList-drop 4 tail tail_fits) } in
     subst (λ (t : PieceKey × List ℕ). KeyFits t.0 × (key_rises before t.0 ≡ true) × (rest ≡ (word_bytes (cast_unsigned w64 t.0.way) ++ (half_bytes t.0.run ++ half_bytes t.0.piece)) ++ t.1)) f.2 (good, f.1, back)
 
@@ -182,10 +182,10 @@ module _ {A : Type 0} (bad : FailedCheck) (least : ℕ) (item : List A → List 
       let b = passed_ok (leb least n) bad (read_many item n [] (drop 4 rest)) (all, after) a.1 in
       let f = section.found n (drop 4 rest) all after (IsByteList-drop 4 rest fits) b.1 in
       let back : rest ≡ (half_bytes (length all) ++ flat_map spell all) ++ after =
-          sym (half_takes rest fits (ltb-false _ _ a.0))
-          ∙ ap (λ t. half_bytes n ++ t) f.1
-          ∙ ap (λ k. half_bytes k ++ (flat_map spell all ++ after)) (sym f.2)
-          ∙ sym (append_assoc (half_bytes (length all)) (flat_map spell all) after) in
+      sym (half_takes rest fits (ltb-false _ _ a.0))
+      ∙ ap (λ t. half_bytes n ++ t) f.1
+      ∙ ap (λ k. half_bytes k ++ (flat_map spell all ++ after)) (sym f.2)
+      ∙ sym (append_assoc (half_bytes (length all)) (flat_map spell all) after) in
       let many = leb-true _ _ b.0 in
       let few = half_below rest fits in
       (omega (arith, many, f.2), omega (arith, few, f.2), f.0, back)

@@ -5,3 +5,5 @@ mod EntryLaws
 mod OrderLaws
 mod TextParts
 mod Noted
+mod TextLaws
+mod InfoLaws

@@ -95,7 +95,7 @@ late_is names places there (suc i) least some le are before =
 late_by : (names : List ℕ) (there i found : ℕ) (late : Bool) → late ≡ out_of_order names there i → LateFrom names there (suc i) found → LateFrom names there i (cond late i found)
 late_by names there i found true e from = record { before = λ k le lt. absurd (omega (arith, le, lt)); here = λ small. sym e }
 late_by names there i found false e from = record {
-  before = λ k le lt. elim (cases_lt i k) [ | inl above ↦ from.before k (omega (arith, above)) lt | inr at ↦ (let same : i ≡ k = omega (arith, le, at) in subst (λ j. out_of_order names there j ≡ false) same (sym e)) ];
+  before = λ k le lt. elim (cases_lt i k) [ inl above ↦ from.before k (omega (arith, above)) lt | inr at ↦ (let same : i ≡ k = omega (arith, le, at) in subst (λ j. out_of_order names there j ≡ false) same (sym e)) ];
   here = from.here;
 }
 
@@ -106,7 +106,7 @@ late_step names places there (suc i) least found some le are before from =
     let k : suc i - 1 ≡ i = omega arith in
     let e = late_is names places there (suc i) least some le are before in
     subst (λ j. LateFrom names there j (cond (ltb (get_or places j 0) (length names) && ltb least (get_or places j 0)) j found)) (sym k)
-      (late_by names there i found (ltb (get_or places i 0) (length names) && ltb least (get_or places i 0)) (subst (λ j. (ltb (get_or places j 0) (length names) && ltb least (get_or places j 0)) ≡ out_of_order names there j) k e) from)
+    (late_by names there i found (ltb (get_or places i 0) (length names) && ltb least (get_or places i 0)) (subst (λ j. (ltb (get_or places j 0) (length names) && ltb least (get_or places j 0)) ≡ out_of_order names there j) k e) from)
 
 none_late : (names : List ℕ) (there k : ℕ) → there ≤ k → out_of_order names there k ≡ false
 unfolding out_of_order

@@ -63,6 +63,10 @@ pub record InfoGood (count : ℕ) (before : List Info) (info : Info) : Type 0 wh
 abbrev pub AreInfos : ℕ → List Info → Type 0
 AreInfos count infos = AllGood (InfoGood count) [] infos
 
+-- their numbers of points and of names fit four bytes
+abbrev pub IsSized : Info → Type 0
+IsSized info = (length info.shape < 2 ^ 32) × (length info.texts < 2 ^ 32)
+
 -- ---- what follows from the entries
 
 -- the names of all entries, one after the other

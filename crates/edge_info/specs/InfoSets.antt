@@ -20,11 +20,10 @@ pub record IsInfoSet (set : InfoSet) : Type 0 where
   pub infos : AreInfos (length set.texts) set.infos
   pub texts : AreTexts (names_of set.infos) set.texts
 
--- the bytes of a set: the entries, the texts, and zeros up to a multiple of 8
-unfoldable pub info_set_bytes : InfoSet → List ℕ
-info_set_bytes set =
-    infos_bytes set.infos ++ (texts_bytes set.texts
-    ++ replicate (gap (length (infos_bytes set.infos) + length (texts_bytes set.texts))) 0)
+-- the bytes of entries and texts: the entries, the texts, and zeros up to a multiple of 8
+unfoldable pub joined_bytes : List Info → List (List ℕ) → List ℕ
+joined_bytes infos texts =
+    infos_bytes infos ++ (texts_bytes texts ++ replicate (gap (length (infos_bytes infos) + length (texts_bytes texts))) 0)
 
 -- the bytes spell a set whose entries and texts have these sizes, and whose texts are so many
 pub record SpellsInfos (bytes : List ℕ) (info_len text_len text_count : ℕ) (set : InfoSet) : Type 0 where
@@ -32,7 +31,7 @@ pub record SpellsInfos (bytes : List ℕ) (info_len text_len text_count : ℕ) (
   pub info_size : length (infos_bytes set.infos) ≡ info_len
   pub text_size : length (texts_bytes set.texts) ≡ text_len
   pub count : length set.texts ≡ text_count
-  pub spelled : bytes ≡ info_set_bytes set
+  pub spelled : bytes ≡ joined_bytes set.infos set.texts
 
 -- ---- reading
 

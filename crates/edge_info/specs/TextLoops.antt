@@ -9,7 +9,6 @@ use Rattle.std.specs.List.{list_any}
 use Rattle.std.specs.Str.{bytes_eq}
 use Rattle.edge_info.specs.Texts.{first_place}
 
-
 -- a list with this number where `name` points, or as it was where it points past the end
 unfoldable pub with_place : List ℕ → ℕ → ℕ → List ℕ
 with_place places name at = if nat_lt name (length places) then slice_set places name at else places

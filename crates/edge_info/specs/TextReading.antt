@@ -48,8 +48,8 @@ is_new_text before text = nat_lt 0 (length text) && is_utf8 text && not (list_an
 unfoldable pub text_at : ℕ → List ℕ → ℕ → List (List ℕ) → List ℕ → Result (List ℕ × List ℕ) FailedCheck
 text_at end names there before rest =
     if has_text rest then
-      (if is_new_text before (text_in rest) && not (out_of_order names there (length before))
-       then Ok (text_in rest, after_text rest) else Err (bad_text end rest))
+    (if is_new_text before (text_in rest) && not (out_of_order names there (length before))
+    then Ok (text_in rest, after_text rest) else Err (bad_text end rest))
     else Err (bad_text end rest)
 
 -- each of so many texts, from the one of this number on, is named

@@ -23,7 +23,10 @@ const ENTRY_CHECK: u8 = 13;
 fn bad(at: u64) -> SectionFault
     ensures { result ≡ SectionFault.Bad 13 at }
 {
-    SectionFault::Bad { check: ENTRY_CHECK, at }
+    SectionFault::Bad {
+        check: ENTRY_CHECK,
+        at,
+    }
 }
 
 /// Whether a key comes before another, in order of way, run and piece.
@@ -107,7 +110,12 @@ fn point_of(at: u64, rest: &[u8]) -> Result<(Point, &[u8]), SectionFault>
 }
 
 /// So many places.
-fn points_of(alloc: Global, at: u64, count: u32, rest: &[u8]) -> Result<(Vec<Point>, &[u8]), SectionFault>
+fn points_of(
+    alloc: Global,
+    at: u64,
+    count: u32,
+    rest: &[u8],
+) -> Result<(Vec<Point>, &[u8]), SectionFault>
     ensures { Gives (λ x. (x.0.items, x.1.now)) result (read_many (point_at (Check 13 at)) count [] rest.now) }
 {
     let mut points = Vec::with_capacity(alloc, (count as usize).min(rest.len() / 8))?;
@@ -153,7 +161,13 @@ fn name_of(at: u64, texts: u64, rest: &[u8]) -> Result<(u32, &[u8]), SectionFaul
 }
 
 /// So many names.
-fn names_of(alloc: Global, at: u64, texts: u64, count: u32, rest: &[u8]) -> Result<(Vec<u32>, &[u8]), SectionFault>
+fn names_of(
+    alloc: Global,
+    at: u64,
+    texts: u64,
+    count: u32,
+    rest: &[u8],
+) -> Result<(Vec<u32>, &[u8]), SectionFault>
     ensures { Gives (λ x. (x.0.items, x.1.now)) result (read_many (name_at (Check 13 at) texts) count [] rest.now) }
 {
     let mut names = Vec::with_capacity(alloc, (count as usize).min(rest.len() / 4))?;
@@ -168,7 +182,12 @@ fn names_of(alloc: Global, at: u64, texts: u64, count: u32, rest: &[u8]) -> Resu
 
 /// The names at the front: how many, and the places of their texts.
 #[tactic(auto, unfolding(crate::specs::EntryReading::counted_at))]
-fn all_names(alloc: Global, at: u64, texts: u64, rest: &[u8]) -> Result<(Vec<u32>, &[u8]), SectionFault>
+fn all_names(
+    alloc: Global,
+    at: u64,
+    texts: u64,
+    rest: &[u8],
+) -> Result<(Vec<u32>, &[u8]), SectionFault>
     ensures { Gives (λ x. (x.0.items, x.1.now)) result (counted_at (Check 13 at) 0 (name_at (Check 13 at) texts) rest.now) }
 {
     if rest.len() < 4 {
@@ -181,7 +200,13 @@ fn all_names(alloc: Global, at: u64, texts: u64, rest: &[u8]) -> Result<(Vec<u32
 
 /// The entry at the front, behind entries with this last key, in a section that ends at `end`.
 #[tactic(auto, unfolding(crate::specs::EntryReading::entry_at))]
-fn entry_of(alloc: Global, end: u64, texts: u64, last: Option<PieceKey>, rest: &[u8]) -> Result<(Info, &[u8]), SectionFault>
+fn entry_of(
+    alloc: Global,
+    end: u64,
+    texts: u64,
+    last: Option<PieceKey>,
+    rest: &[u8],
+) -> Result<(Info, &[u8]), SectionFault>
     ensures { (before : List Info) → ((key : PieceKey) → key_rises before key ≡ rises_after last key)
         → Gives (λ x. (x.0, x.1.now)) result (entry_at end texts before rest.now) }
 {
@@ -207,7 +232,12 @@ fn key_of_entry(info: &Info) -> PieceKey
 /// The entries that fill a section which ends at the offset `end` and before which so many texts are said to follow, or
 /// the first that is none, by its offset.
 #[tactic(auto, unfolding(crate::specs::EntryReading::entries_at))]
-pub fn read_entries(alloc: Global, end: u64, texts: u64, section: &[u8]) -> Result<Infos, SectionFault>
+pub fn read_entries(
+    alloc: Global,
+    end: u64,
+    texts: u64,
+    section: &[u8],
+) -> Result<Infos, SectionFault>
     ensures { Gives (λ x. x) result (entries_at end texts section.now) }
 {
     let mut infos = Vec::new(alloc);

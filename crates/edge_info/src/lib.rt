@@ -6,8 +6,15 @@ mod entries;
 mod infos;
 mod laws;
 mod order;
+mod padding;
+mod sets;
 mod texts;
+mod writes;
 
 pub use entries::read_entries;
-pub use laws::{entries_law};
 pub use infos::{Info, InfoFault, InfoSet, Infos, TextPlaces, Texts};
+pub use laws::{entries_law, infos_law, padding_law, texts_law};
+pub use padding::read_padding;
+pub use sets::{read_infos, write_infos};
+pub use texts::read_texts;
+pub use writes::{push_infos, push_texts};

@@ -37,7 +37,11 @@ fn filled(alloc: Global, number: usize, times: usize) -> Result<Vec<usize>, Allo
 }
 
 /// Where each of so many texts is first named, and the number of names where it isn't.
-pub(crate) fn first_places(alloc: Global, names: &[u32], there: usize) -> Result<Vec<usize>, AllocError>
+pub(crate) fn first_places(
+    alloc: Global,
+    names: &[u32],
+    there: usize,
+) -> Result<Vec<usize>, AllocError>
     ensures { IfOk result (λ v. ArePlaces names.now 0 there v.items) }
 {
     let mut places = filled(alloc, names.len(), there)?;
@@ -89,8 +93,9 @@ pub(crate) fn first_late(places: &[usize], names: &[u32]) -> usize
 }
 
 /// Whether each of these texts is named.
-pub(crate) fn are_named(places: &[usize], names: usize) -> bool
-    ensures { result ≡ list_all (λ place. nat_lt place names) places.now }
+pub(crate) fn are_named(places: &[usize], names: &[u32]) -> bool
+    ensures { result ≡ list_all (λ place. nat_lt place (length names.now)) places.now }
 {
-    places.iter().all(|place| *place < names)
+    let count = names.len();
+    places.iter().all(|place| *place < count)
 }

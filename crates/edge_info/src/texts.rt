@@ -23,7 +23,10 @@ const TEXT_CHECK: u8 = 15;
 fn bad(at: u64) -> SectionFault
     ensures { result ≡ SectionFault.Bad 15 at }
 {
-    SectionFault::Bad { check: TEXT_CHECK, at }
+    SectionFault::Bad {
+        check: TEXT_CHECK,
+        at,
+    }
 }
 
 /// The bytes of the text at the front, where it stands whole, and what follows it.
@@ -78,7 +81,13 @@ fn note<'a>(seen: &mut BTreeMap<&'a str, ()>, text: &'a str) -> Result<bool, All
 }
 
 /// The text at the front, behind those that were noted; it is noted too.
-fn text_of<'a>(alloc: Global, end: u64, late: bool, seen: &mut BTreeMap<&'a str, ()>, rest: &'a [u8]) -> Result<(TagText, &'a [u8]), SectionFault>
+fn text_of<'a>(
+    alloc: Global,
+    end: u64,
+    late: bool,
+    seen: &mut BTreeMap<&'a str, ()>,
+    rest: &'a [u8],
+) -> Result<(TagText, &'a [u8]), SectionFault>
     ensures text { (names : List ℕ) (there : ℕ) (before : List (List ℕ)) → out_of_order names there (length before) ≡ late → HasSeen seen.old before
         → Gives (λ x. (x.0, x.1.now)) result (text_at end names there before rest.now) }
     ensures noted { IfOk result (λ x. (before : List (List ℕ)) → HasSeen seen.old before → HasSeen seen.new (before ++ x.0 ∷ [])) }
@@ -88,7 +97,10 @@ fn text_of<'a>(alloc: Global, end: u64, late: bool, seen: &mut BTreeMap<&'a str,
     let Some((bytes, after)) = cut_text(rest) else {
         return Err(bad(at));
     };
-    if bytes.is_empty() || late {
+    if bytes.is_empty() {
+        return Err(bad(at));
+    }
+    if late {
         return Err(bad(at));
     }
     let Some(text) = in_utf8(bytes) else {
@@ -108,7 +120,13 @@ fn is_here(number: u64, found: usize) -> bool
 }
 
 /// So many texts, of which this one is the first out of order.
-fn texts_of(alloc: Global, end: u64, count: u64, late: usize, section: &[u8]) -> Result<(Vec<TagText>, &[u8]), SectionFault>
+fn texts_of(
+    alloc: Global,
+    end: u64,
+    count: u64,
+    late: usize,
+    section: &[u8],
+) -> Result<(Vec<TagText>, &[u8]), SectionFault>
     ensures { (names : List ℕ) (there : ℕ) → IsFirstLate (out_of_order names there) late
         → Gives (λ x. (x.0.items, x.1.now)) result (read_many (text_at end names there) count [] section.now) }
 {
@@ -126,7 +144,13 @@ fn texts_of(alloc: Global, end: u64, count: u64, late: usize, section: &[u8]) ->
 /// The texts that fill a section which ends at the offset `end`, so many as said, of these entries, or the first that
 /// fails, by its offset.
 #[tactic(auto, unfolding(crate::specs::TextReading::texts_at))]
-pub fn read_texts(alloc: Global, end: u64, count: u64, infos: &[Info], section: &[u8]) -> Result<Texts, SectionFault>
+pub fn read_texts(
+    alloc: Global,
+    end: u64,
+    count: u64,
+    infos: &[Info],
+    section: &[u8],
+) -> Result<Texts, SectionFault>
     ensures { Gives (λ x. x) result (texts_at end (names_of infos.now) count section.now) }
 {
     let names = all_names_of(alloc, infos)?;
@@ -136,7 +160,7 @@ pub fn read_texts(alloc: Global, end: u64, count: u64, infos: &[Info], section: 
     if !rest.is_empty() {
         return Err(bad(place(end, rest)));
     }
-    if !are_named(&places, names.len()) {
+    if !are_named(&places, &names) {
         return Err(bad(end));
     }
     Ok(Seq::from_vec(texts))

@@ -19,7 +19,8 @@ pub loop-rest-preserved : goal.loop-rest-preserved
 loop-rest-preserved c =
     rw c.in_ok-push.ensures.items (
       all_goes_on (entry_at c.args.end c.args.texts) (entry_shrinks c.args.end c.args.texts) c.loop-rest.infos.items c.loop-rest.rest.now c.in_ok-info.info c.in_ok-info.after.now (entries_at c.args.end c.args.texts c.args.section.now) (search rules) (c.in_ok-info.ensures c.loop-rest.infos.items c.loop-rest.invariant.1) c.loop-rest.invariant.0,
-      λ key. rw c.key_of_entry.ensures (key_rises-push c.loop-rest.infos.items c.in_ok-info.info key))
+      λ key. rw c.key_of_entry.ensures (key_rises-push c.loop-rest.infos.items c.in_ok-info.info key),
+    )
 
 pub returns : goal.returns
 returns c = rw c.from_vec.ensures (all_done (entry_at c.args.end c.args.texts) c.loop-rest.infos.items c.loop-rest.rest.now (entries_at c.args.end c.args.texts c.args.section.now) (search rules) c.loop-rest.invariant.0)

@@ -9,7 +9,8 @@ pub loop-left-preserved : goal.loop-left-preserved
 loop-left-preserved c = (
   omega arith,
   (λ limit le. rw c.lesser-least.ensures (least_step c.args.names.now c.args.places.now (length c.args.places.now) c.loop-left.left c.loop-left.least (omega arith) c.loop-left.invariant.0 c.requires (λ m small. c.loop-left.invariant.1 m (omega (arith, small))) limit (omega (arith, le)))),
-  rw (c.picked-found.ensures, c.is_late.ensures) (late_step c.args.names.now c.args.places.now (length c.args.places.now) c.loop-left.left c.loop-left.least c.loop-left.found (omega arith) c.loop-left.invariant.0 c.requires (λ m small. c.loop-left.invariant.1 m (omega (arith, small))) c.loop-left.invariant.2))
+  rw (c.picked-found.ensures, c.is_late.ensures) (late_step c.args.names.now c.args.places.now (length c.args.places.now) c.loop-left.left c.loop-left.least c.loop-left.found (omega arith) c.loop-left.invariant.0 c.requires (λ m small. c.loop-left.invariant.1 m (omega (arith, small))) c.loop-left.invariant.2),
+)
 
 pub returns : goal.returns
 returns c =

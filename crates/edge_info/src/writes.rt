@@ -1,0 +1,97 @@
+//! Writing entries and texts.
+ghost use Rattle.std.specs.Prelude.{◌≡◌, ◌<◌, ◌^◌, ◌++◌, ◌∷◌, [], length, All, OnOk};
+ghost use Rattle.section_grammar.specs.WordBytes.{half_bytes, halves_bytes};
+ghost use Rattle.edge_info.specs.Entries.{key_bytes, point_bytes, counted_bytes, info_bytes, infos_bytes, IsSized};
+ghost use Rattle.edge_info.specs.Texts.{text_bytes, texts_bytes};
+ghost use Rattle.std.specs.List.{flat_map};
+
+use crate::infos::Info;
+use fixed_geo::Point;
+use osm_model::{PieceKey, TagText};
+use section_grammar::{push_half, push_word};
+use std::alloc::AllocError;
+
+/// Puts a key behind the bytes.
+#[tactic(auto, unfolding(crate::specs::Entries::key_bytes))]
+fn push_key(out: &mut Vec<u8>, key: PieceKey) -> Result<(), AllocError>
+    ensures { OnOk result (out.new.items ≡ out.old.items ++ key_bytes key) }
+{
+    push_word(out, key.way.cast_unsigned())?;
+    push_half(out, key.run)?;
+    push_half(out, key.piece)
+}
+
+/// Puts a point behind the bytes.
+#[tactic(auto, unfolding(crate::specs::Entries::point_bytes))]
+fn push_point(out: &mut Vec<u8>, point: Point) -> Result<(), AllocError>
+    ensures { OnOk result (out.new.items ≡ out.old.items ++ point_bytes point) }
+{
+    push_half(out, point.lat.cast_unsigned())?;
+    push_half(out, point.lon.cast_unsigned())
+}
+
+/// Puts points behind the bytes.
+fn push_points(out: &mut Vec<u8>, points: &[Point]) -> Result<(), AllocError>
+    ensures { OnOk result (out.new.items ≡ out.old.items ++ flat_map point_bytes points.now) }
+{
+    for point in points {
+        push_point(out, *point)?;
+    }
+    Ok(())
+}
+
+/// Puts names behind the bytes.
+fn push_names(out: &mut Vec<u8>, names: &[u32]) -> Result<(), AllocError>
+    ensures { OnOk result (out.new.items ≡ out.old.items ++ halves_bytes names.now) }
+{
+    for name in names {
+        push_half(out, *name)?;
+    }
+    Ok(())
+}
+
+/// Puts an entry behind the bytes.
+#[tactic(auto, unfolding(crate::specs::Entries::info_bytes))]
+fn push_info(out: &mut Vec<u8>, info: &Info) -> Result<(), AllocError>
+    requires few_points { length info.now.shape < 2 ^ 32 }
+    requires few_names { length info.now.texts < 2 ^ 32 }
+    ensures { OnOk result (out.new.items ≡ out.old.items ++ info_bytes info.now) }
+{
+    push_key(out, info.key)?;
+    push_half(out, info.shape.len() as u32)?;
+    push_points(out, info.shape.as_slice())?;
+    push_half(out, info.texts.len() as u32)?;
+    push_names(out, info.texts.as_slice())
+}
+
+/// Puts entries behind the bytes.
+pub fn push_infos(out: &mut Vec<u8>, infos: &[Info]) -> Result<(), AllocError>
+    requires { All IsSized infos.now }
+    ensures { OnOk result (out.new.items ≡ out.old.items ++ infos_bytes infos.now) }
+{
+    for info in infos {
+        push_info(out, info)?;
+    }
+    Ok(())
+}
+
+/// Puts a text behind the bytes.
+#[tactic(auto, unfolding(crate::specs::Texts::text_bytes))]
+fn push_text(out: &mut Vec<u8>, text: &str) -> Result<(), AllocError>
+    requires { length text.now < 2 ^ 32 }
+    ensures { OnOk result (out.new.items ≡ out.old.items ++ text_bytes text.now) }
+{
+    push_half(out, text.len() as u32)?;
+    out.extend_from_slice(text.as_bytes())
+}
+
+/// Puts texts behind the bytes.
+pub fn push_texts(out: &mut Vec<u8>, texts: &[TagText]) -> Result<(), AllocError>
+    requires { All (λ text. length text < 2 ^ 32) texts.now }
+    ensures { OnOk result (out.new.items ≡ out.old.items ++ texts_bytes texts.now) }
+{
+    for text in texts {
+        push_text(out, text.as_str())?;
+    }
+    Ok(())
+}
