@@ -7,3 +7,4 @@ mod TextParts
 mod Noted
 mod TextLaws
 mod InfoLaws
+mod StartLaws
