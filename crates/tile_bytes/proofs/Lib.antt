@@ -9,4 +9,9 @@ pub mod SequenceSteps
 pub mod RecordLaws
 pub mod NodeEdgeLaws
 pub mod ChainLaws
+pub mod HeaderLaws
+pub mod RecordSections
+pub mod ListSections
+pub mod InfoSections
+pub mod TileLaws
 pub mod SequenceLaws

@@ -1,5 +1,5 @@
 -- The chain section: for each shortcut the base edges of its chain.
-use Rattle.std.specs.Prelude.{◌≡◌, ℕ, ◌+◌, ◌*◌, ◌^◌, ◌<◌, ◌≤◌, nat_lt, nat_le, ◌==◌, ◌||◌, Bool, List, [], ◌∷◌, ◌++◌, length, drop, slice_index, sum_by, Result, Ok, Err, if◌then◌else◌}
+use Rattle.std.specs.Prelude.{◌≡◌, ℕ, ◌+◌, ◌*◌, ◌^◌, ◌<◌, ◌≤◌, nat_lt, nat_le, ◌==◌, ◌||◌, Bool, List, [], ◌∷◌, ◌++◌, length, drop, slice_index, Result, Ok, Err, if◌then◌else◌}
 use Rattle.tile_records.specs.Edges.{EdgeFields}
 use Rattle.section_grammar.specs.WordBytes.{word_in, word_bytes, words_bytes}
 use Rattle.section_grammar.specs.Reads.{◌>>=◌, read_many, AllGood}
@@ -13,7 +13,8 @@ chain_bytes ids = word_bytes (length ids) ++ words_bytes ids
 
 -- the words of these chains
 abbrev pub words_of_chains : List (List ℕ) → ℕ
-words_of_chains chains = sum_by (λ ids. 1 + length ids) chains
+words_of_chains [] = 0
+words_of_chains (ids ∷ chains) = 1 + length ids + words_of_chains chains
 
 -- GraphIds of edges of one level
 pub record AreIds (level : ℕ) (ids : List ℕ) : Type 0 where

@@ -1,5 +1,5 @@
 -- The sequence section: lists of edges that may not be travelled one after the other, with the modes that may not.
-use Rattle.std.specs.Prelude.{◌≡◌, ℕ, ◌+◌, ◌*◌, ◌/◌, ◌%◌, ◌^◌, ◌<◌, ◌≤◌, nat_lt, nat_le, ◌==◌, ◌&&◌, ◌||◌, Bool, true, false, List, [], ◌∷◌, ◌++◌, length, drop, sum_by, Result, Ok, Err, if◌then◌else◌}
+use Rattle.std.specs.Prelude.{◌≡◌, ℕ, ◌+◌, ◌*◌, ◌/◌, ◌%◌, ◌^◌, ◌<◌, ◌≤◌, nat_lt, nat_le, ◌==◌, ◌&&◌, ◌||◌, Bool, true, false, List, [], ◌∷◌, ◌++◌, length, drop, Result, Ok, Err, if◌then◌else◌}
 use Rattle.std.specs.Cmp.Lexicographic.{slice_cmp}
 use Rattle.std.specs.Ordering.{nat_cmp, is_lt, is_eq}
 use Rattle.section_grammar.specs.WordBytes.{word_in, words_in, word_bytes, words_bytes}
@@ -17,7 +17,8 @@ sequence_bytes s = word_bytes (length s.edges + 2 ^ 16 * s.modes) ++ words_bytes
 
 -- the words of these sequences
 abbrev pub words_of_sequences : List Sequence → ℕ
-words_of_sequences sequences = sum_by (λ s. 1 + length s.edges) sequences
+words_of_sequences [] = 0
+words_of_sequences (s ∷ sequences) = 1 + length s.edges + words_of_sequences sequences
 
 -- by the lists of GraphIds, number by number, a prefix first; then by the modes
 abbrev pub sequence_less : Sequence → Sequence → Bool

@@ -5,10 +5,9 @@ use Rattle.graph_id.specs.GraphId.{level_of, tile_of_id}
 use Rattle.tile_records.specs.Edges.{EdgeFields}
 use Rattle.section_grammar.specs.WordBytes.{words_bytes}
 use Rattle.section_grammar.specs.Reads.{AllGood}
-use Rattle.edge_info.specs.declared.infos.InfoSet.{InfoSet}
 use Rattle.edge_info.specs.Entries.{AreInfos, infos_bytes, names_of, starts_of, starts_at}
 use Rattle.edge_info.specs.Texts.{AreTexts, texts_bytes}
-use Rattle.edge_info.specs.InfoSets.{info_set_bytes}
+use Rattle.edge_info.specs.InfoSets.{joined_bytes}
 use Rattle.tile_bytes.specs.declared.header.TheConstants.{MOST_RECORDS}
 use Rattle.tile_bytes.specs.declared.header.Header.{Header}
 use Rattle.tile_bytes.specs.declared.ids.LevelRule.TheVariants as rules
@@ -63,10 +62,6 @@ header_of_tile tile = record {
   text_bytes = length (texts_bytes tile.texts);
 }
 
--- the entries and the texts of a tile
-abbrev pub infos_of_tile : Tile → InfoSet
-infos_of_tile tile = record { infos = tile.infos; texts = tile.texts }
-
 -- the one spelling of a tile: the header, and the sections one after the other
 unfoldable pub spelling_of : Tile → List ℕ
 spelling_of tile =
@@ -76,7 +71,7 @@ spelling_of tile =
     ++ (words_bytes tile.transitions
     ++ (flat_map chain_bytes tile.chains
     ++ (flat_map sequence_bytes tile.sequences
-    ++ info_set_bytes (infos_of_tile tile))))))
+    ++ joined_bytes tile.infos tile.texts)))))
 
 -- The bytes spell the tile.
 pub record TileSpelled (bytes : List ℕ) (tile : Tile) : Type 0 where

@@ -6,7 +6,12 @@ ghost use Rattle.tile_bytes.specs.declared.ids.LevelRule.{LevelRule};
 ghost use Rattle.section_grammar.specs.WordBytes.{word_bytes};
 ghost use Rattle.tile_bytes.specs.Chains.{chain_at, chain_bytes, IsChain};
 ghost use Rattle.tile_bytes.specs.Sequences.{sequence_at, sequence_bytes, IsSequence};
+ghost use Rattle.section_grammar.specs.WordBytes.{IsByteList};
+ghost use Rattle.tile_bytes.specs.declared.tile.Tile.{Tile};
+ghost use Rattle.tile_bytes.specs.Tiles.{TileSpelled};
+ghost use Rattle.tile_bytes.specs.TileReading.{tile_at};
 
+use edge_info::{entries_law, padding_law, texts_law};
 use tile_records::{edge_law, node_law};
 
 /// The section of nodes.
@@ -37,3 +42,17 @@ pub fn chains_law()
 pub fn sequences_law()
     ensures { (end : ℕ) → FillsSection (sequence_at end) sequence_bytes IsSequence }
 {}
+
+/// Bytes spell the tile that is read from them, a tile has one spelling, and bytes spell at most one tile.
+pub fn tile_law()
+    ensures found { (bytes : List ℕ) (tile : Tile) → IsByteList bytes → tile_at bytes ≡ Ok tile → TileSpelled bytes tile }
+    ensures spelled { (bytes : List ℕ) (tile : Tile) → TileSpelled bytes tile → tile_at bytes ≡ Ok tile }
+    ensures one_spelling { (a b : List ℕ) (tile : Tile) → TileSpelled a tile → TileSpelled b tile → a ≡ b }
+    ensures one_tile { (bytes : List ℕ) (a b : Tile) → TileSpelled bytes a → TileSpelled bytes b → a ≡ b }
+{
+    nodes_law();
+    edges_law();
+    entries_law();
+    texts_law();
+    padding_law();
+}
