@@ -1,7 +1,8 @@
 -- The entries and texts of a tile are read as they were written, and again.
-use Rattle.std.proofs.Common.{◌≡◌, ℕ, zero, suc, ◌+◌, ◌-◌, ◌*◌, ◌<◌, ◌≤◌, Bool, true, false, cond, List, [], ◌∷◌, ◌++◌, length, take, drop, replicate, Result, Ok, Err, refl, sym, ap, subst, ◌∙◌, arith}
+use Rattle.std.proofs.Common.{◌≡◌, ℕ, zero, suc, ◌+◌, ◌-◌, ◌*◌, ◌<◌, ◌≤◌, Bool, true, false, cond, List, [], ◌∷◌, ◌++◌, length, take, drop, get_or, replicate, Result, Ok, Err, refl, sym, ap, subst, ◌∙◌, arith}
 use Rattle.std.specs.Prelude.{All}
 use Rattle.std.proofs.lemmas.List.Elements.{All-nil, All-cons, All-head, All-tail}
+use Rattle.std.proofs.Math.Seq.{drop-cons}
 use Rattle.tile_records.specs.Edges.{EdgeFields}
 use Rattle.section_grammar.specs.WordBytes.{IsByteList}
 use Rattle.section_grammar.specs.Reads.{◌>>=◌}
@@ -34,6 +35,28 @@ unfolding edge_entries_at
 entries_again at starts [] h = refl
 entries_again at starts (e ∷ es) h =
     ap (λ b. cond b (edge_entries_at (at + 32) starts es) (Err (Check 14 at))) (All-head (HasEntry starts) e es h) ∙ entries_again (at + 32) starts es (All-tail (HasEntry starts) e es h)
+
+pub entry_missing : (at : ℕ) (starts : List ℕ) (es : List EdgeFields) (i : ℕ) (e none : EdgeFields) → i < length es → e ≡ get_or es i none → has_entry starts e ≡ false → edge_entries_at at starts (drop i es) ≡ Err (Check 14 at)
+unfolding edge_entries_at
+entry_missing at starts es i e none lt here lacks =
+    let parts : drop i es ≡ get_or es i none ∷ drop (suc i) es = drop-cons es i none lt in
+    let it : has_entry starts (get_or es i none) ≡ false = ap (has_entry starts) (sym here) ∙ lacks in
+    ap (edge_entries_at at starts) parts ∙ ap (λ b. cond b (edge_entries_at (at + 32) starts (drop (suc i) es)) (Err (Check 14 at))) it
+
+pub entry_there : (at : ℕ) (starts : List ℕ) (es : List EdgeFields) (i : ℕ) (e none : EdgeFields) → i < length es → e ≡ get_or es i none → has_entry starts e ≡ true → edge_entries_at (at + 32 * i) starts (drop i es) ≡ edge_entries_at (at + 32 * (i + 1)) starts (drop (i + 1) es)
+unfolding edge_entries_at
+entry_there at starts es i e none lt here is =
+    let parts : drop i es ≡ get_or es i none ∷ drop (suc i) es = drop-cons es i none lt in
+    let it : has_entry starts (get_or es i none) ≡ true = ap (has_entry starts) (sym here) ∙ is in
+    let k : suc i ≡ i + 1 = omega arith in
+    let place : at + 32 * i + 32 ≡ at + 32 * (i + 1) = omega arith in
+    ap (edge_entries_at (at + 32 * i) starts) parts ∙ ap (λ b. cond b (edge_entries_at (at + 32 * i + 32) starts (drop (suc i) es)) (Err (Check 14 (at + 32 * i)))) it
+    ∙ ap (λ n. edge_entries_at (at + 32 * i + 32) starts (drop n es)) k ∙ ap (λ n. edge_entries_at n starts (drop (i + 1) es)) place
+
+pub entries_done : (at : ℕ) (starts : List ℕ) (es : List EdgeFields) → length es ≡ 0 → edge_entries_at at starts es ≡ Ok tt
+unfolding edge_entries_at
+entries_done at starts [] none = refl
+entries_done at starts (e ∷ es) none = absurd (omega arith)
 
 abbrev set_with : List Info → List (List ℕ) → InfoSet
 set_with infos texts = record { infos = infos; texts = texts }

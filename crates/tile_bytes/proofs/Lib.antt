@@ -14,4 +14,5 @@ pub mod RecordSections
 pub mod ListSections
 pub mod InfoSections
 pub mod TileLaws
+pub mod Answered
 pub mod SequenceLaws

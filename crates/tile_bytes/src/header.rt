@@ -1,9 +1,10 @@
 //! The header of a tile file.
 ghost use Rattle.std.specs.Prelude.{◌≡◌, ◌≤◌, ◌<◌, ◌^◌, ◌+◌, ◌*◌, length, drop, slice_index, is_some, IfSome, IfOk, nat_le, ◌==◌, ◌&&◌, ◌%◌};
 ghost use Rattle.std.specs.Int.{w32, cast_unsigned};
+ghost use Rattle.graph_id.specs.GraphId.{level_of};
 ghost use Rattle.section_grammar.specs.WordBytes.{words_in};
 ghost use Rattle.section_grammar.specs.Answers.{Gives};
-ghost use Rattle.tile_bytes.specs.Header.{corner_word, file_size, header_at, header_tests, names_tile, are_modes, tested, header_of};
+ghost use Rattle.tile_bytes.specs.Header.{corner_word, file_size, header_at, names_tile, are_modes, header_of, header_words};
 ghost use Rattle.tile_bytes.specs.Modes.{is_within};
 
 use fixed_geo::Point;
@@ -70,6 +71,7 @@ pub(crate) fn named_tile(word: u64) -> Option<(GraphId, u64)>
     ensures some { is_some result ≡ names_tile word }
     ensures id { IfSome result (λ t. t.0 ≡ word) }
     ensures corner { IfSome result (λ t. t.1 ≡ corner_word word) }
+    ensures level { IfSome result (λ t. level_of t.0 ≤ 2) }
 {
     let id = GraphId::of_value(word).ok()?;
     if id.id() != 0 {
@@ -145,6 +147,7 @@ fn has_size(size: u64, last_word: u64, header: &Header) -> bool
 pub(crate) fn read_header(bytes: &[u8]) -> Result<Header, SectionFault>
     ensures header { Gives (λ h. (h, drop 64 bytes.now)) result (header_at bytes.now) }
     ensures whole { IfOk result (λ _. 64 ≤ length bytes.now) }
+    ensures level { IfOk result (λ h. level_of h.id ≤ 2) }
 {
     let size = bytes.len() as u64;
     if size < 64 {
@@ -171,4 +174,38 @@ pub(crate) fn read_header(bytes: &[u8]) -> Result<Header, SectionFault>
         return Err(SectionFault::Bad { check: 7, at: 56 });
     }
     Ok(header)
+}
+
+/// A word of two halves.
+fn word_of_halves(low: u32, high: u32) -> u64
+    ensures { result ≡ low + 2 ^ 32 * high }
+{
+    u64::from(low) + (u64::from(high) << 32)
+}
+
+/// The last word of a header: the size of the file and the modes.
+fn last_word(size: u64, modes: u16) -> u64
+    requires { size < 2 ^ 48 }
+    ensures { result ≡ size + 2 ^ 48 * modes }
+{
+    size + (u64::from(modes) << 48)
+}
+
+/// The words of a header.
+#[tactic(auto, unfolding(crate::specs::Header::header_words))]
+pub(crate) fn header_words(header: &Header, corner: u64) -> [u64; 8]
+    requires corner { corner ≡ corner_word header.now.id }
+    requires size { file_size header.now < 2 ^ 48 }
+    ensures { result ≡ header_words header.now }
+{
+    [
+        SIGNATURE,
+        header.id.value(),
+        corner,
+        word_of_halves(header.nodes, header.edges),
+        word_of_halves(header.transitions, header.chain_words),
+        word_of_halves(header.sequence_words, header.texts),
+        word_of_halves(header.info_bytes, header.text_bytes),
+        last_word(file_size(header), header.modes),
+    ]
 }
