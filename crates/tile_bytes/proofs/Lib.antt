@@ -14,5 +14,6 @@ pub mod RecordSections
 pub mod ListSections
 pub mod InfoSections
 pub mod TileLaws
+pub mod Pieces
 pub mod Answered
 pub mod SequenceLaws

@@ -9,3 +9,4 @@ pub mod Sequences
 pub mod TileSections
 pub mod Tiles
 pub mod TileReading
+pub mod Writing

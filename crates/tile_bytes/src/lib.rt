@@ -14,6 +14,8 @@ mod sequence_section;
 mod sequences;
 mod spans;
 mod tile;
+mod write;
+mod write_whole;
 
 pub use chains::Chains;
 pub use header::{Header, MODES, MOST_RECORDS, SIGNATURE};
@@ -23,3 +25,4 @@ pub use laws::{chains_law, edges_law, ids_law, nodes_law, sequences_law, tile_la
 pub use read::{TileFault, read_tile};
 pub use sequences::{FEWEST_EDGES, MOST_EDGES, Sequence, Sequences, VEHICLES};
 pub use tile::Tile;
+pub use write::WriteFault;
