@@ -1,9 +1,10 @@
 -- Steps that did not fail, and readings that go on by one item; for loops that read items.
 use Rattle.std.proofs.Common.{◌≡◌, ℕ, zero, suc, ◌+◌, ◌-◌, ◌<◌, ◌≤◌, Bool, true, false, cond, ltb, List, [], ◌∷◌, ◌++◌, length, Result, Ok, Err, refl, sym, ap, subst, ◌∙◌, arith}
+use Rattle.std.proofs.lemmas.Bool.{eq-eqb, ne_eqb}
 use Rattle.section_grammar.specs.declared.fault.SectionFault.{SectionFault}
 use Rattle.section_grammar.specs.declared.fault.SectionFault.TheVariants as faults
 use Rattle.section_grammar.specs.Reads.{◌>>=◌, read_many, read_all}
-use Rattle.section_grammar.specs.Answers.{FailedCheck, Check, Fails, Gives}
+use Rattle.section_grammar.specs.Answers.{FailedCheck, Check, Fails, Gives, place_of, ended}
 
 -- the value of a step that did not fail
 pub bind_ok : {A B F : Type 0} (r : Result A F) (f : A → Result B F) (y : B) → (r >>= f) ≡ Ok y → (x : A) × (r ≡ Ok x) × (f x ≡ Ok y)
@@ -105,3 +106,17 @@ pub all_ends : {A : Type 0} (item : List A → List ℕ → Result (A × List �
     → 0 < length rest → Fails e (item before rest) → read_all item (length rest) before rest ≡ total → Fails e total
 all_ends item shrinks faults.OutOfMemory before rest total some h so_far = tt
 all_ends item shrinks (faults.Bad check at) before rest total some h so_far = all_breaks item shrinks (Check check at) before rest total some h so_far
+
+-- a fault of a step is that of what follows it
+pub bind_fails : {A B : Type 0} (e : SectionFault) (r : Result A FailedCheck) (f : A → Result B FailedCheck) → Fails e r → Fails e (r >>= f)
+bind_fails faults.OutOfMemory r f h = tt
+bind_fails (faults.Bad check at) r f h = rw h refl
+
+-- what was read fills the section, or something is left
+pub filled : {A : Type 0} (check end : ℕ) (x : A) (rest : List ℕ) → length rest ≡ 0 → ended check end x rest ≡ Ok x
+filled check end x rest none = ap (λ b. cond b (Ok x) (Err (Check check (place_of end rest)))) (eq-eqb (length rest) 0 none)
+
+pub unfilled : {A : Type 0} (check end at : ℕ) (x : A) (rest : List ℕ) → (length rest ≡ 0 → ⊥) → at ≡ place_of end rest → ended check end x rest ≡ Err (Check check at)
+unfilled {A = A} check end at x rest some here =
+    let one : ended check end x rest ≡ Err (Check check (place_of end rest)) = ap (λ b. cond b (Ok x) (Err (Check check (place_of end rest)))) (ne_eqb (length rest) 0 some) in
+    one ∙ ap (λ (n : ℕ). Err (Check check n)) (sym here)

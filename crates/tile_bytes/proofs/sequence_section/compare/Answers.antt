@@ -1,0 +1,6 @@
+use Rattle.std.proofs.Common.{◌≡◌, ◌≤◌, length, min, ◌∙◌, arith}
+use Rattle.tile_bytes.proofs.WordLists.{compared}
+use Rattle.tile_bytes.proofs.sequence_section.compare.Goals as goal
+
+pub returns : goal.returns
+returns c = c.cmp-2.ensures ∙ compared c.args.ids.now c.args.words.now c.loop-i.i (omega (arith, c.min-i-end.ensures)) (omega (arith, c.min-i-end.ensures)) c.loop-i.invariant

@@ -1,0 +1,12 @@
+pub mod Spans
+pub mod SequenceRows
+pub mod Modes
+pub mod Header
+pub mod Items
+pub mod Sums
+pub mod Chains
+pub mod Sequences
+pub mod TileSections
+pub mod Tiles
+pub mod TileReading
+pub mod Writing
