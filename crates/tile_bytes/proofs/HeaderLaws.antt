@@ -135,7 +135,7 @@ eight_below a b c d e f g h p0 p1 p2 p3 p4 p5 p6 p7 (suc (suc (suc (suc (suc (su
 eight_below a b c d e f g h p0 p1 p2 p3 p4 p5 p6 p7 (suc (suc (suc (suc (suc (suc (suc zero))))))) = p7
 eight_below a b c d e f g h p0 p1 p2 p3 p4 p5 p6 p7 (suc (suc (suc (suc (suc (suc (suc (suc i)))))))) = omega arith
 
-abbrev header_with : ℕ → ℕ → ℕ → ℕ → ℕ → ℕ → ℕ → ℕ → ℕ → ℕ → Header
+abbrev pub header_with : ℕ → ℕ → ℕ → ℕ → ℕ → ℕ → ℕ → ℕ → ℕ → ℕ → Header
 header_with id modes nodes edges transitions chain_words sequence_words texts info_bytes text_bytes = record {
   id = id;
   modes = modes;
@@ -149,7 +149,7 @@ header_with id modes nodes edges transitions chain_words sequence_words texts in
   text_bytes = text_bytes;
 }
 
-parts_same : {a a' b b' c c' d d' e e' f f' g g' h h' i i' : ℕ} (id : ℕ) → a ≡ a' → b ≡ b' → c ≡ c' → d ≡ d' → e ≡ e' → f ≡ f' → g ≡ g' → h ≡ h' → i ≡ i'
+pub parts_same : {a a' b b' c c' d d' e e' f f' g g' h h' i i' : ℕ} (id : ℕ) → a ≡ a' → b ≡ b' → c ≡ c' → d ≡ d' → e ≡ e' → f ≡ f' → g ≡ g' → h ≡ h' → i ≡ i'
     → header_with id a b c d e f g h i ≡ header_with id a' b' c' d' e' f' g' h' i'
 parts_same id e0 e1 e2 e3 e4 e5 e6 e7 e8 = rw (e0, e1, e2, e3, e4, e5, e6, e7, e8) refl
 

@@ -200,7 +200,7 @@ module _
 
 -- ---- again
 
-texts_count : (texts : List (List ℕ)) → length texts ≤ length (texts_bytes texts)
+pub texts_count : (texts : List (List ℕ)) → length texts ≤ length (texts_bytes texts)
 unfolding text_bytes
 texts_count [] = omega arith
 texts_count (t ∷ ts) =
@@ -222,16 +222,16 @@ header_good tile passes fits = record {
   modes = passes.modes;
 }
 
-abbrev zeros_of : Tile → List ℕ
+abbrev pub zeros_of : Tile → List ℕ
 zeros_of tile = replicate (gap (length (infos_bytes tile.infos) + length (texts_bytes tile.texts))) 0
 
-abbrev back_of : Tile → List ℕ
+abbrev pub back_of : Tile → List ℕ
 back_of tile = infos_bytes tile.infos ++ (texts_bytes tile.texts ++ zeros_of tile)
 
-abbrev lists_of : Tile → List ℕ
+abbrev pub lists_of : Tile → List ℕ
 lists_of tile = flat_map chain_bytes tile.chains ++ (flat_map sequence_bytes tile.sequences ++ back_of tile)
 
-abbrev records_of : Tile → TileRecords
+abbrev pub records_of : Tile → TileRecords
 records_of tile = records_with tile.nodes tile.edges tile.transitions
 
 back_length : (tile : Tile) → length (back_of tile) ≡ length (infos_bytes tile.infos) + length (texts_bytes tile.texts) + gap (length (infos_bytes tile.infos) + length (texts_bytes tile.texts))
@@ -317,7 +317,7 @@ chained : (bytes : List ℕ) (h : Header) (r : TileRecords) (rest0 rest : List �
 unfolding tile_at
 chained bytes h r rest0 rest l s e0 e1 e2 e3 = rw (e0, e1, e2, e3) refl
 
-spelled_parts : (tile : Tile) → spelling_of tile ≡ words_bytes (header_words (header_of_tile tile)) ++ records_bytes (records_of tile) (lists_of tile)
+pub spelled_parts : (tile : Tile) → spelling_of tile ≡ words_bytes (header_words (header_of_tile tile)) ++ records_bytes (records_of tile) (lists_of tile)
 unfolding spelling_of joined_bytes
 spelled_parts tile = refl
 
