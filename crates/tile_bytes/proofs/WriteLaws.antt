@@ -31,9 +31,11 @@ sequence_words_are bytes sequences e = eighth (length bytes) (words_of_sequences
 four_same : {a a' b b' c c' d d' : ℕ} → a ≡ a' → b ≡ b' → c ≡ c' → d ≡ d' → ◌≡◌ {A = List ℕ} (a ∷ b ∷ c ∷ d ∷ []) (a' ∷ b' ∷ c' ∷ d' ∷ [])
 four_same e0 e1 e2 e3 = cc
 
-pub counts_are : (tile : Tile) (c s i x : List ℕ) → c ≡ flat_map chain_bytes tile.chains → s ≡ flat_map sequence_bytes tile.sequences → i ≡ infos_bytes tile.infos → x ≡ texts_bytes tile.texts
-    → first_above (length c / 8 ∷ length s / 8 ∷ length i ∷ length x ∷ []) ≡ first_above (section_counts tile)
-counts_are tile c s i x e0 e1 e2 e3 = ap first_above (four_same (chain_words_are c tile.chains e0) (sequence_words_are s tile.sequences e1) (ap length e2) (ap length e3))
+-- the first count that is too large, of sections that are spelled so
+pub counts_are : (tile : Tile) (c s i x : List ℕ) (first : Option ℕ) → c ≡ flat_map chain_bytes tile.chains → s ≡ flat_map sequence_bytes tile.sequences → i ≡ infos_bytes tile.infos → x ≡ texts_bytes tile.texts
+    → first ≡ first_above (length c / 8 ∷ length s / 8 ∷ length i ∷ length x ∷ []) → first_above (section_counts tile) ≡ first
+counts_are tile c s i x first e0 e1 e2 e3 e =
+    sym (e ∙ ap first_above (four_same (chain_words_are c tile.chains e0) (sequence_words_are s tile.sequences e1) (ap length e2) (ap length e3)))
 
 past : (b : Bool) (n : ℕ) (r : Option ℕ) → cond b r (Some n) ≡ None → (b ≡ true) × (r ≡ None)
 past true n r e = (refl, e)
