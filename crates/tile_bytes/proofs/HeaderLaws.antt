@@ -1,11 +1,10 @@
 -- A header that is read is the one that was written, and again.
-use Rattle.std.proofs.Common.{◌≡◌, ℕ, zero, suc, ◌+◌, ◌-◌, ◌*◌, ◌/◌, ◌%◌, ◌^◌, ◌<◌, ◌≤◌, Bool, true, false, cond, ltb, leb, eqb, ◌&&◌, List, [], ◌∷◌, ◌++◌, length, drop, get_or, Result, Ok, Err, refl, sym, ap, subst, ◌∙◌, arith}
-use Rattle.std.proofs.lemmas.Bool.{ltb-false, ltb-true, lt-ltb, le-ltb, leb-true, le-leb, eqb-true, eq-eqb, and_parts, and_from}
+use Rattle.std.proofs.Common.{◌≡◌, ℕ, zero, suc, ◌+◌, ◌*◌, ◌/◌, ◌%◌, ◌^◌, ◌<◌, ◌≤◌, Bool, true, false, cond, ltb, leb, eqb, ◌&&◌, List, [], ◌∷◌, ◌++◌, length, drop, get_or, Result, Ok, Err, refl, sym, ap, subst, ◌∙◌, arith}
+use Rattle.std.proofs.lemmas.Bool.{ltb-false, ltb-true, le-ltb, leb-true, le-leb, eqb-true, eq-eqb, and_parts, and_from}
 use Rattle.std.proofs.lemmas.List.{length-append, length-drop, drop_at}
 use Rattle.std.proofs.lemmas.Nat.{and_le_r}
 use Rattle.std.specs.Prelude.{bit_and}
-use Rattle.graph_id.specs.GraphId.{level_of, tile_of_id, id_of, invalid}
-use Rattle.tile_geometry.specs.Grid.{tile_count}
+use Rattle.graph_id.specs.GraphId.{invalid}
 use Rattle.edge_info.specs.InfoSets.{gap}
 use Rattle.section_grammar.specs.WordBytes.{IsByteList, words_in, words_bytes}
 use Rattle.section_grammar.specs.Answers.{FailedCheck, Check}
@@ -13,7 +12,7 @@ use Rattle.section_grammar.proofs.WordLaws.{words_take, words_below, words_again
 use Rattle.section_grammar.proofs.Steps.{guard_ok, ok_is}
 use Rattle.tile_bytes.specs.declared.header.TheConstants.{SIGNATURE, MOST_RECORDS, MODES}
 use Rattle.tile_bytes.specs.declared.header.Header.{Header}
-use Rattle.tile_bytes.specs.Header.{low_half, high_half, file_size, header_of, corner_word, header_words, names_tile, are_modes, has_signature, has_tile, has_corner, has_few_records, has_few_transitions, has_size, tested, header_tests, header_at, IsHeader}
+use Rattle.tile_bytes.specs.Header.{file_size, header_of, corner_word, header_words, names_tile, are_modes, tested, header_tests, header_at, IsHeader}
 
 abbrev AllPass : List (Bool × FailedCheck) → Type 0
 AllPass [] = Unit {0}

@@ -1,4 +1,3 @@
-use Rattle.std.proofs.Common.{◌∙◌}
 use Rattle.tile_bytes.proofs.WriteLaws.{names_it, parts_spell}
 use Rattle.tile_bytes.proofs.write_whole.spelled.Goals as goal
 

@@ -1,6 +1,5 @@
-use Rattle.std.proofs.Common.{◌≡◌, Some, None, sym, length, ◌∙◌}
+use Rattle.std.proofs.Common.{length, ◌∙◌}
 use Rattle.edge_info.specs.Entries.{names_of}
-use Rattle.tile_bytes.specs.Writing.{first_above, section_counts}
 use Rattle.tile_bytes.proofs.WriteLaws.{counts_are, none_above}
 use Rattle.tile_bytes.proofs.write_whole.write_tile.Goals as goal
 
