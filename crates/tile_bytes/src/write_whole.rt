@@ -1,5 +1,5 @@
 //! Writing a whole tile.
-ghost use Rattle.std.specs.Prelude.{◌≡◌, ◌≤◌, ◌<◌, ◌+◌, ◌*◌, ◌/◌, ◌^◌, ◌++◌, ◌∷◌, [], ℕ, true, length, replicate, nat_lt, OnOk, IfOk, IfErr};
+ghost use Rattle.std.specs.Prelude.{◌≡◌, ◌<◌, ◌+◌, ◌/◌, ◌^◌, ◌++◌, ◌∷◌, [], true, length, replicate, nat_lt, OnOk, IfOk, IfErr};
 ghost use Rattle.std.specs.List.{flat_map};
 ghost use Rattle.section_grammar.specs.WordBytes.{words_bytes};
 ghost use Rattle.edge_info.specs.Entries.{infos_bytes};
