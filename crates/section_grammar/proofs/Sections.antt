@@ -1,10 +1,10 @@
 -- A reader of one item reads whole sections of such items.
-use Rattle.std.proofs.Common.{◌≡◌, ℕ, zero, suc, ◌+◌, ◌-◌, ◌<◌, ◌≤◌, List, [], ◌∷◌, ◌++◌, length, Result, Ok, Err, refl, sym, ap, subst, ◌∙◌, append_assoc, arith}
+use Rattle.std.proofs.Common.{◌≡◌, ℕ, zero, suc, ◌+◌, ◌-◌, ◌<◌, ◌≤◌, List, [], ◌∷◌, ◌++◌, length, Result, Ok, refl, sym, ap, subst, ◌∙◌, append_assoc, arith}
 use Rattle.std.specs.List.{flat_map}
 use Rattle.std.proofs.lemmas.List.{append-nil, length-append}
 use Rattle.std.proofs.lemmas.List.Concat.{flat_map-cons}
 use Rattle.section_grammar.specs.WordBytes.{IsByteList}
-use Rattle.section_grammar.specs.Reads.{◌>>=◌, read_many, read_all, AllGood}
+use Rattle.section_grammar.specs.Reads.{read_many, read_all, AllGood}
 use Rattle.section_grammar.specs.Sections.{IsReader, IsSection, FillsSection}
 use Rattle.section_grammar.proofs.ByteLists.{IsByteList-rest}
 use Rattle.section_grammar.proofs.Steps.{bind_ok, ok_is}

@@ -1,10 +1,10 @@
 -- Steps that did not fail, and readings that go on by one item; for loops that read items.
-use Rattle.std.proofs.Common.{◌≡◌, ℕ, zero, suc, ◌+◌, ◌-◌, ◌<◌, ◌≤◌, Bool, true, false, cond, ltb, List, [], ◌∷◌, ◌++◌, length, Result, Ok, Err, refl, sym, ap, subst, ◌∙◌, arith}
+use Rattle.std.proofs.Common.{◌≡◌, ℕ, zero, suc, ◌+◌, ◌-◌, ◌<◌, ◌≤◌, Bool, true, false, cond, List, [], ◌∷◌, ◌++◌, length, Result, Ok, Err, refl, sym, ap, ◌∙◌, arith}
 use Rattle.std.proofs.lemmas.Bool.{eq-eqb, ne_eqb}
 use Rattle.section_grammar.specs.declared.fault.SectionFault.{SectionFault}
 use Rattle.section_grammar.specs.declared.fault.SectionFault.TheVariants as faults
 use Rattle.section_grammar.specs.Reads.{◌>>=◌, read_many, read_all}
-use Rattle.section_grammar.specs.Answers.{FailedCheck, Check, Fails, Gives, place_of, ended}
+use Rattle.section_grammar.specs.Answers.{FailedCheck, Check, Fails, place_of, ended}
 
 -- the value of a step that did not fail
 pub bind_ok : {A B F : Type 0} (r : Result A F) (f : A → Result B F) (y : B) → (r >>= f) ≡ Ok y → (x : A) × (r ≡ Ok x) × (f x ≡ Ok y)

@@ -1,5 +1,5 @@
 -- Reading items one after the other from the front of some bytes, up to the first that fails. `F` is what a failure says.
-use Rattle.std.specs.Prelude.{◌≡◌, ℕ, zero, suc, List, [], ◌∷◌, ◌++◌, Result, Ok, Err}
+use Rattle.std.specs.Prelude.{ℕ, zero, suc, List, [], ◌∷◌, ◌++◌, Result, Ok, Err}
 
 -- a step, and what follows where it did not fail
 infixl 10 ◌>>=◌

@@ -1,5 +1,5 @@
 -- Reading undoes spelling, for items of one kind, and what is read is spelled so.
-use Rattle.std.specs.Prelude.{◌≡◌, ℕ, ◌+◌, ◌<◌, ◌≤◌, List, [], ◌∷◌, ◌++◌, length, Result, Ok}
+use Rattle.std.specs.Prelude.{◌≡◌, ℕ, ◌≤◌, List, [], ◌++◌, length, Result, Ok}
 use Rattle.std.specs.List.{flat_map}
 use Rattle.section_grammar.specs.WordBytes.{IsByteList}
 use Rattle.section_grammar.specs.Reads.{read_many, read_all, AllGood}

@@ -1,18 +1,18 @@
 -- A chain that is read is the one that was written, and again.
-use Rattle.std.proofs.Common.{◌≡◌, ℕ, ◌+◌, ◌-◌, ◌*◌, ◌^◌, ◌<◌, ◌≤◌, Bool, true, false, cond, ltb, ◌||◌, List, [], ◌∷◌, ◌++◌, length, drop, Result, Ok, Err, refl, sym, ap, subst, ◌∙◌, append_assoc, arith}
+use Rattle.std.proofs.Common.{◌≡◌, ℕ, ◌*◌, ◌^◌, ◌<◌, ◌≤◌, Bool, true, false, cond, ltb, ◌||◌, List, [], ◌++◌, length, drop, Ok, Err, refl, sym, ap, ◌∙◌, append_assoc, arith}
 use Rattle.std.proofs.lemmas.Bool.{ltb-false, le-ltb, leb-true, le-leb}
-use Rattle.std.proofs.lemmas.List.{length-append, length-drop}
+use Rattle.std.proofs.lemmas.List.{length-append}
 use Rattle.section_grammar.specs.WordBytes.{IsByteList, word_in, word_bytes, words_bytes}
-use Rattle.section_grammar.specs.Reads.{read_many, AllGood}
-use Rattle.section_grammar.specs.Answers.{FailedCheck, Check, place_of}
-use Rattle.section_grammar.specs.Sections.{IsReader, IsSection}
+use Rattle.section_grammar.specs.Reads.{read_many}
+use Rattle.section_grammar.specs.Answers.{Check, place_of}
+use Rattle.section_grammar.specs.Sections.{IsSection}
 use Rattle.section_grammar.proofs.ByteLists.{IsByteList-drop}
 use Rattle.section_grammar.proofs.WordLaws.{word_takes, word_below, word_again, word_after, word_length, words_bytes-length}
 use Rattle.section_grammar.proofs.Steps.{guard_ok}
 use Rattle.section_grammar.proofs.Sections.{section_of}
 use Rattle.tile_bytes.specs.declared.ids.LevelRule.TheVariants as rules
-use Rattle.tile_bytes.specs.Items.{IsId, id_at}
-use Rattle.tile_bytes.specs.Chains.{chain_bytes, AreIds, IsChain, chain_at}
+use Rattle.tile_bytes.specs.Items.{id_at}
+use Rattle.tile_bytes.specs.Chains.{chain_bytes, IsChain, chain_at}
 use Rattle.tile_bytes.proofs.IdLaws.{ids_section}
 
 or_false : (x y : Bool) → (x || y) ≡ false → (x ≡ false) × (y ≡ false)

@@ -1,11 +1,10 @@
 -- A header that is read is the one that was written, and again.
-use Rattle.std.proofs.Common.{◌≡◌, ℕ, zero, suc, ◌+◌, ◌-◌, ◌*◌, ◌/◌, ◌%◌, ◌^◌, ◌<◌, ◌≤◌, Bool, true, false, cond, ltb, leb, eqb, ◌&&◌, List, [], ◌∷◌, ◌++◌, length, drop, get_or, Result, Ok, Err, refl, sym, ap, subst, ◌∙◌, arith}
-use Rattle.std.proofs.lemmas.Bool.{ltb-false, ltb-true, lt-ltb, le-ltb, leb-true, le-leb, eqb-true, eq-eqb, and_parts, and_from}
+use Rattle.std.proofs.Common.{◌≡◌, ℕ, zero, suc, ◌+◌, ◌*◌, ◌/◌, ◌%◌, ◌^◌, ◌<◌, ◌≤◌, Bool, true, false, cond, ltb, leb, eqb, ◌&&◌, List, [], ◌∷◌, ◌++◌, length, drop, get_or, Result, Ok, Err, refl, sym, ap, subst, ◌∙◌, arith}
+use Rattle.std.proofs.lemmas.Bool.{ltb-false, ltb-true, le-ltb, leb-true, le-leb, eqb-true, eq-eqb, and_parts, and_from}
 use Rattle.std.proofs.lemmas.List.{length-append, length-drop, drop_at}
 use Rattle.std.proofs.lemmas.Nat.{and_le_r}
 use Rattle.std.specs.Prelude.{bit_and}
-use Rattle.graph_id.specs.GraphId.{level_of, tile_of_id, id_of, invalid}
-use Rattle.tile_geometry.specs.Grid.{tile_count}
+use Rattle.graph_id.specs.GraphId.{invalid}
 use Rattle.edge_info.specs.InfoSets.{gap}
 use Rattle.section_grammar.specs.WordBytes.{IsByteList, words_in, words_bytes}
 use Rattle.section_grammar.specs.Answers.{FailedCheck, Check}
@@ -13,7 +12,7 @@ use Rattle.section_grammar.proofs.WordLaws.{words_take, words_below, words_again
 use Rattle.section_grammar.proofs.Steps.{guard_ok, ok_is}
 use Rattle.tile_bytes.specs.declared.header.TheConstants.{SIGNATURE, MOST_RECORDS, MODES}
 use Rattle.tile_bytes.specs.declared.header.Header.{Header}
-use Rattle.tile_bytes.specs.Header.{low_half, high_half, file_size, header_of, corner_word, header_words, names_tile, are_modes, has_signature, has_tile, has_corner, has_few_records, has_few_transitions, has_size, tested, header_tests, header_at, IsHeader}
+use Rattle.tile_bytes.specs.Header.{file_size, header_of, corner_word, header_words, names_tile, are_modes, tested, header_tests, header_at, IsHeader}
 
 abbrev AllPass : List (Bool × FailedCheck) → Type 0
 AllPass [] = Unit {0}
@@ -135,7 +134,7 @@ eight_below a b c d e f g h p0 p1 p2 p3 p4 p5 p6 p7 (suc (suc (suc (suc (suc (su
 eight_below a b c d e f g h p0 p1 p2 p3 p4 p5 p6 p7 (suc (suc (suc (suc (suc (suc (suc zero))))))) = p7
 eight_below a b c d e f g h p0 p1 p2 p3 p4 p5 p6 p7 (suc (suc (suc (suc (suc (suc (suc (suc i)))))))) = omega arith
 
-abbrev header_with : ℕ → ℕ → ℕ → ℕ → ℕ → ℕ → ℕ → ℕ → ℕ → ℕ → Header
+abbrev pub header_with : ℕ → ℕ → ℕ → ℕ → ℕ → ℕ → ℕ → ℕ → ℕ → ℕ → Header
 header_with id modes nodes edges transitions chain_words sequence_words texts info_bytes text_bytes = record {
   id = id;
   modes = modes;
@@ -149,7 +148,7 @@ header_with id modes nodes edges transitions chain_words sequence_words texts in
   text_bytes = text_bytes;
 }
 
-parts_same : {a a' b b' c c' d d' e e' f f' g g' h h' i i' : ℕ} (id : ℕ) → a ≡ a' → b ≡ b' → c ≡ c' → d ≡ d' → e ≡ e' → f ≡ f' → g ≡ g' → h ≡ h' → i ≡ i'
+pub parts_same : {a a' b b' c c' d d' e e' f f' g g' h h' i i' : ℕ} (id : ℕ) → a ≡ a' → b ≡ b' → c ≡ c' → d ≡ d' → e ≡ e' → f ≡ f' → g ≡ g' → h ≡ h' → i ≡ i'
     → header_with id a b c d e f g h i ≡ header_with id a' b' c' d' e' f' g' h' i'
 parts_same id e0 e1 e2 e3 e4 e5 e6 e7 e8 = rw (e0, e1, e2, e3, e4, e5, e6, e7, e8) refl
 

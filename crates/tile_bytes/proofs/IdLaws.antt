@@ -1,17 +1,17 @@
 -- A GraphId that is read is the one that was written, and again.
-use Rattle.std.proofs.Common.{◌≡◌, ℕ, zero, suc, ◌+◌, ◌-◌, ◌*◌, ◌^◌, ◌<◌, ◌≤◌, Bool, true, false, cond, ltb, ◌&&◌, List, [], ◌∷◌, ◌++◌, length, drop, Result, Ok, Err, refl, sym, ap, subst, ◌∙◌, arith}
+use Rattle.std.proofs.Common.{◌≡◌, ℕ, zero, suc, ◌<◌, ◌≤◌, true, false, cond, ltb, ◌&&◌, List, [], ◌∷◌, ◌++◌, length, drop, Ok, Err, refl, sym, ap, subst, ◌∙◌, arith}
 use Rattle.std.proofs.lemmas.Bool.{ltb-false, ltb-true, lt-ltb, le-ltb, and_parts, and_from}
 use Rattle.std.proofs.lemmas.List.{length-append, length-drop}
 use Rattle.graph_id.specs.GraphId.{level_of, invalid}
 use Rattle.section_grammar.specs.WordBytes.{IsByteList, word_in, word_bytes}
-use Rattle.section_grammar.specs.Reads.{◌>>=◌, read_many}
+use Rattle.section_grammar.specs.Reads.{read_many}
 use Rattle.section_grammar.specs.Answers.{FailedCheck, Check, place_of}
-use Rattle.section_grammar.specs.Sections.{IsReader, IsSection}
+use Rattle.section_grammar.specs.Sections.{IsSection}
 use Rattle.section_grammar.proofs.WordLaws.{word_takes, word_again, word_after, word_length}
 use Rattle.section_grammar.proofs.Steps.{bind_ok, guard_ok, passed_ok, ok_is}
 use Rattle.section_grammar.proofs.Sections.{section_of}
 use Rattle.tile_bytes.specs.declared.ids.LevelRule.{LevelRule}
-use Rattle.tile_bytes.specs.Items.{allows, id_passes, IsValid, IsId, IsNext, id_at}
+use Rattle.tile_bytes.specs.Items.{allows, IsId, id_at}
 
 pub record IdTaken (rule : LevelRule) (rest : List ℕ) (x : ℕ) (after : List ℕ) : Type 0 where
   pub long : 8 ≤ length rest

@@ -17,3 +17,4 @@ pub mod TileLaws
 pub mod Pieces
 pub mod Answered
 pub mod SequenceLaws
+pub mod WriteLaws

@@ -1,8 +1,8 @@
 -- The sections of chains and sequences are read as they were written, and again.
-use Rattle.std.proofs.Common.{◌≡◌, ℕ, ◌+◌, ◌-◌, ◌*◌, ◌<◌, ◌≤◌, Bool, true, false, cond, eqb, List, [], ◌∷◌, ◌++◌, length, take, drop, get_or, Result, Ok, Err, refl, sym, ap, subst, ◌∙◌, arith}
+use Rattle.std.proofs.Common.{◌≡◌, ℕ, ◌+◌, ◌*◌, Bool, true, false, cond, eqb, List, [], ◌∷◌, ◌++◌, length, drop, get_or, Ok, Err, refl, sym, ap, subst, ◌∙◌, arith}
 use Rattle.std.specs.List.{flat_map}
 use Rattle.std.proofs.lemmas.Bool.{eqb-true, eq-eqb}
-use Rattle.std.proofs.lemmas.List.{append-nil, nil_from_length, length-append, take-append-drop}
+use Rattle.std.proofs.lemmas.List.{append-nil, nil_from_length, length-append}
 use Rattle.std.proofs.lemmas.List.Concat.{flat_map-cons}
 use Rattle.graph_id.specs.GraphId.{level_of}
 use Rattle.tile_records.specs.Edges.{EdgeFields}
@@ -15,9 +15,9 @@ use Rattle.section_grammar.proofs.Steps.{bind_ok, passed_ok, ok_is}
 use Rattle.tile_bytes.specs.declared.header.Header.{Header}
 use Rattle.tile_bytes.specs.declared.sequences.Sequence.{Sequence}
 use Rattle.tile_bytes.specs.Chains.{chain_bytes, words_of_chains, IsChain, chain_at, chains_at, named_chains, chain_offsets, offsets_at}
-use Rattle.tile_bytes.specs.Sequences.{sequence_bytes, words_of_sequences, IsSequence, sequence_at, sequences_at}
+use Rattle.tile_bytes.specs.Sequences.{sequence_bytes, words_of_sequences, IsSequence, sequences_at}
 use Rattle.tile_bytes.specs.TileSections.{section_of_words, behind_words, chains_in_place}
-use Rattle.tile_bytes.specs.TileReading.{TileLists, with_sequences, lists_at, behind_lists}
+use Rattle.tile_bytes.specs.TileReading.{TileLists, with_sequences, lists_at}
 use Rattle.tile_bytes.proofs.ChainLaws.{chains_section}
 use Rattle.tile_bytes.proofs.SequenceLaws.{sequences_filling}
 

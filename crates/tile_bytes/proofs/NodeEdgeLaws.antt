@@ -1,8 +1,8 @@
 -- Nodes and edges that are read are those that were written, and again.
-use Rattle.std.proofs.Common.{◌≡◌, ℕ, ◌<◌, Bool, true, false, cond, ltb, ◌&&◌, List, ◌++◌, length, Option, Some, None, refl, sym, ap, subst, ◌∙◌}
+use Rattle.std.proofs.Common.{◌≡◌, ℕ, Bool, true, false, cond, ltb, ◌&&◌, List, Option, Some, None, refl, sym, ap, subst, ◌∙◌}
 use Rattle.std.proofs.lemmas.Bool.{ltb-true, lt-ltb, and_parts, and_from}
 use Rattle.graph_id.specs.GraphId.{invalid}
-use Rattle.tile_records.specs.Layout.{AreWords, BitSpan, HasNoSpare, has_no_spare, number_in, used_bits}
+use Rattle.tile_records.specs.Layout.{AreWords, BitSpan, HasNoSpare, has_no_spare, number_in}
 use Rattle.tile_records.specs.Nodes.{NodeFields, NodeFits, node_words, node_of, node_read, node_spans, AreNodeWords}
 use Rattle.tile_records.specs.Edges.{EdgeFields, EdgeFits, edge_words, edge_of, edge_read, edge_spans, edge_layout, AreEdgeWords}
 use Rattle.section_grammar.specs.Sections.{IsSection}

@@ -1,11 +1,10 @@
 -- Where chains begin, one edge after the other.
-use Rattle.std.proofs.Common.{◌≡◌, ℕ, zero, suc, ◌+◌, ◌<◌, ◌≤◌, Bool, true, false, not, cond, eqb, List, [], ◌∷◌, length, get_or, drop, Result, Ok, Err, refl, sym, ap, ◌∙◌, arith}
-use Rattle.std.proofs.lemmas.Bool.{eq-eqb}
+use Rattle.std.proofs.Common.{◌≡◌, ℕ, suc, ◌+◌, ◌<◌, true, false, eqb, List, [], ◌∷◌, length, get_or, drop, Ok, Err, refl, sym, ap, ◌∙◌, arith}
 use Rattle.std.proofs.lemmas.List.{length-drop}
 use Rattle.std.proofs.Math.Seq.{drop-cons}
 use Rattle.tile_records.specs.Edges.{EdgeFields}
-use Rattle.section_grammar.specs.Answers.{FailedCheck, Check}
-use Rattle.tile_bytes.specs.Chains.{named_chains, chain_offsets, offsets_at}
+use Rattle.section_grammar.specs.Answers.{Check}
+use Rattle.tile_bytes.specs.Chains.{chain_offsets, offsets_at}
 
 pub offsets_skip : (at : ℕ) (e : EdgeFields) (es : List EdgeFields) (offsets : List ℕ) → e.shortcut ≡ false → offsets_at at (e ∷ es) offsets ≡ offsets_at (at + 32) es offsets
 unfolding offsets_at

@@ -1,11 +1,11 @@
 -- A record of four words that is read is the one that was written, and again.
-use Rattle.std.proofs.Common.{◌≡◌, ℕ, ◌+◌, ◌*◌, ◌<◌, ◌≤◌, Bool, true, false, cond, ltb, List, [], ◌∷◌, ◌++◌, length, drop, Option, Some, None, Result, Ok, Err, refl, sym, ap, subst, ◌∙◌, arith}
+use Rattle.std.proofs.Common.{◌≡◌, ℕ, ◌≤◌, Bool, true, false, cond, ltb, List, ◌++◌, length, drop, Option, Some, None, Ok, Err, refl, sym, ap, subst, ◌∙◌, arith}
 use Rattle.std.proofs.lemmas.Bool.{ltb-false, le-ltb}
 use Rattle.std.proofs.lemmas.List.{length-append, drop_at}
 use Rattle.tile_records.specs.Layout.{AreWords}
 use Rattle.section_grammar.specs.WordBytes.{IsByteList, words_in, words_bytes}
 use Rattle.section_grammar.specs.Answers.{FailedCheck, Check, place_of}
-use Rattle.section_grammar.specs.Sections.{IsReader, IsSection}
+use Rattle.section_grammar.specs.Sections.{IsSection}
 use Rattle.section_grammar.proofs.WordLaws.{words_take, words_below, words_again, words_bytes-length}
 use Rattle.section_grammar.proofs.Steps.{guard_ok, passed_ok, ok_is}
 use Rattle.section_grammar.proofs.Sections.{section_of}

@@ -1,15 +1,14 @@
 -- The sections of nodes, edges and transitions are read as they were written, and again.
-use Rattle.std.proofs.Common.{◌≡◌, ℕ, ◌+◌, ◌*◌, ◌<◌, ◌≤◌, Bool, true, false, cond, eqb, ◌&&◌, List, [], ◌∷◌, ◌++◌, length, Result, Ok, Err, refl, sym, ap, subst, ◌∙◌, arith}
+use Rattle.std.proofs.Common.{◌≡◌, ℕ, ◌+◌, ◌*◌, cond, eqb, ◌&&◌, List, [], ◌∷◌, ◌++◌, length, Ok, Err, refl, sym, ap, subst, ◌∙◌, arith}
 use Rattle.std.specs.List.{flat_map}
 use Rattle.std.proofs.lemmas.Bool.{eqb-true, eq-eqb, and_parts, and_from}
 use Rattle.std.proofs.lemmas.List.{length-append}
 use Rattle.std.proofs.lemmas.List.Concat.{flat_map-cons}
 use Rattle.graph_id.specs.GraphId.{level_of, tile_of_id}
-use Rattle.tile_records.specs.Nodes.{NodeFields, NodeFits, node_words}
-use Rattle.tile_records.specs.Edges.{EdgeFields, EdgeFits, edge_words}
-use Rattle.tile_records.specs.Layout.{AreWords, words_with}
-use Rattle.section_grammar.specs.WordBytes.{IsByteList, word_bytes, words_bytes}
-use Rattle.section_grammar.specs.Reads.{◌>>=◌, read_many, AllGood}
+use Rattle.tile_records.specs.Nodes.{NodeFields, node_words}
+use Rattle.tile_records.specs.Edges.{EdgeFields, edge_words}
+use Rattle.section_grammar.specs.WordBytes.{IsByteList, words_bytes}
+use Rattle.section_grammar.specs.Reads.{read_many, AllGood}
 use Rattle.section_grammar.specs.Answers.{FailedCheck, Check, place_of}
 use Rattle.section_grammar.specs.Sections.{IsSection}
 use Rattle.section_grammar.proofs.ByteLists.{IsByteList-rest}

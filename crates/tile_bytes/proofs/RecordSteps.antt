@@ -1,8 +1,8 @@
 -- A record of four words at the front, read or refused.
-use Rattle.std.proofs.Common.{◌≡◌, ℕ, ◌≤◌, Bool, true, false, ltb, List, length, drop, Option, Some, None, Result, Ok, Err, refl, arith}
+use Rattle.std.proofs.Common.{◌≡◌, ℕ, ◌≤◌, Bool, true, false, ltb, List, length, drop, Option, Some, Ok, Err, refl}
 use Rattle.std.proofs.lemmas.Bool.{le-ltb}
 use Rattle.section_grammar.specs.WordBytes.{words_in}
-use Rattle.section_grammar.specs.Answers.{FailedCheck, Check, place_of}
+use Rattle.section_grammar.specs.Answers.{Check, place_of}
 use Rattle.tile_bytes.specs.Items.{record_at, record_found}
 
 module _ {R : Type 0} (read : List ℕ → Option R) (passes : List R → R → Bool) (check end : ℕ) (before : List R) (rest : List ℕ) where

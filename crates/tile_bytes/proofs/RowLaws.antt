@@ -1,12 +1,11 @@
 -- Sequences stay as they are where edges are put behind theirs.
-use Rattle.std.proofs.Common.{◌≡◌, ℕ, ◌-◌, ◌<◌, ◌≤◌, refl, sym, ◌∙◌, ap, ◌+◌, List, [], ◌∷◌, ◌++◌, length, map, arith}
+use Rattle.std.proofs.Common.{◌≡◌, ℕ, refl, ◌∙◌, ap, List, [], ◌∷◌, ◌++◌, length, map}
 use Rattle.std.specs.Prelude.{slice_range}
 use Rattle.std.proofs.lemmas.List.{map-append}
 use Rattle.std.proofs.lemmas.List.Elements.{All-head, All-tail}
-use Rattle.tile_bytes.specs.declared.spans.Span.{Span}
 use Rattle.tile_bytes.specs.declared.sequences.Sequence.{Sequence}
 use Rattle.tile_bytes.specs.declared.sequences.SequenceRow.{SequenceRow}
-use Rattle.tile_bytes.specs.Spans.{part_of, LiesWithin}
+use Rattle.tile_bytes.specs.Spans.{LiesWithin}
 use Rattle.tile_bytes.specs.SequenceRows.{sequence_of, RowsLieWithin}
 use Rattle.tile_bytes.proofs.SpanLaws.{part_append, part_end}
 

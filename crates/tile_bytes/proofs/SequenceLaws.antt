@@ -1,27 +1,24 @@
 -- A sequence that is read is the one that was written, and again.
-use Rattle.std.proofs.Common.{◌≡◌, ℕ, zero, suc, ◌+◌, ◌-◌, ◌*◌, ◌/◌, ◌%◌, ◌^◌, ◌<◌, ◌≤◌, Bool, true, false, cond, ltb, leb, eqb, ◌&&◌, List, [], ◌∷◌, ◌++◌, length, drop, get_or, Result, Ok, Err, refl, sym, ap, subst, ◌∙◌, append_assoc, arith}
+use Rattle.std.proofs.Common.{◌≡◌, ℕ, zero, suc, ◌+◌, ◌*◌, ◌/◌, ◌%◌, ◌^◌, ◌<◌, ◌≤◌, true, false, ltb, leb, ◌&&◌, List, [], ◌∷◌, ◌++◌, length, drop, get_or, Ok, refl, sym, ap, subst, ◌∙◌, append_assoc, arith}
 use Rattle.std.specs.Prelude.{bit_and}
-use Rattle.std.proofs.lemmas.Bool.{ltb-false, ltb-true, lt-ltb, le-ltb, leb-true, le-leb, eqb-true, and_parts, and_from}
-use Rattle.std.proofs.lemmas.List.{length-append, length-drop}
+use Rattle.std.proofs.lemmas.Bool.{ltb-true, lt-ltb, le-ltb, leb-true, le-leb, eqb-true, and_parts, and_from}
+use Rattle.std.proofs.lemmas.List.{length-append}
 use Rattle.std.proofs.lemmas.Nat.{and_le_r}
 use Rattle.graph_id.specs.GraphId.{invalid}
 use Rattle.section_grammar.specs.WordBytes.{IsByteList, word_in, words_in, word_bytes, words_bytes}
-use Rattle.section_grammar.specs.Reads.{◌>>=◌, read_many, AllGood}
-use Rattle.section_grammar.specs.Answers.{FailedCheck, Check, place_of}
-use Rattle.section_grammar.specs.Sections.{IsReader, FillsSection}
+use Rattle.section_grammar.specs.Reads.{read_many, AllGood}
+use Rattle.section_grammar.specs.Sections.{FillsSection}
 use Rattle.section_grammar.proofs.ByteLists.{IsByteList-drop}
-use Rattle.section_grammar.proofs.WordLaws.{word_takes, word_below, word_again, word_after, word_length, words_again, words_bytes-length}
-use Rattle.section_grammar.proofs.Steps.{guard_ok}
+use Rattle.section_grammar.proofs.WordLaws.{word_takes, word_again, word_after, word_length, words_again, words_bytes-length}
 use Rattle.section_grammar.proofs.Sections.{filling_of}
 use Rattle.tile_bytes.specs.declared.ids.LevelRule.{LevelRule}
 use Rattle.tile_bytes.specs.declared.ids.LevelRule.TheVariants as rules
-use Rattle.tile_bytes.specs.declared.sequences.TheConstants.{VEHICLES, FEWEST_EDGES, MOST_EDGES}
+use Rattle.tile_bytes.specs.declared.sequences.TheConstants.{VEHICLES}
 use Rattle.tile_bytes.specs.declared.sequences.Sequence.{Sequence}
-use Rattle.tile_bytes.specs.Modes.{is_within}
-use Rattle.tile_bytes.specs.Items.{rises, IsId, id_at}
-use Rattle.tile_bytes.specs.Sequences.{sequence_bytes, sequence_less, sequence_passes, sequence_in, first_word_passes, sequence_at, IsSequence}
+use Rattle.tile_bytes.specs.Items.{IsId, id_at}
+use Rattle.tile_bytes.specs.Sequences.{sequence_bytes, sequence_passes, sequence_in, first_word_passes, sequence_at, IsSequence}
 use Rattle.tile_bytes.proofs.IdLaws.{ids_section}
-use Rattle.tile_bytes.proofs.SequenceSteps.{SequenceTaken, sequence_taken}
+use Rattle.tile_bytes.proofs.SequenceSteps.{sequence_taken}
 
 -- GraphIds are words
 pub ids_below : (rule : LevelRule) (before ids : List ℕ) → AllGood (IsId rule) before ids → (i : ℕ) → get_or ids i 0 < 2 ^ 64

@@ -1,7 +1,7 @@
 -- Parts of a list stay as they are where more is put behind the list.
-use Rattle.std.proofs.Common.{◌≡◌, ℕ, ◌-◌, ◌<◌, ◌≤◌, refl, sym, ◌∙◌, ap, get_or, ◌+◌, List, [], ◌∷◌, ◌++◌, length, map, take, drop, arith, append_assoc}
-use Rattle.std.specs.Prelude.{All, slice_range, Result, Ok, Err, OnErr}
-use Rattle.std.proofs.lemmas.List.{append-nil, map-append, get_or-map, length-map, length-append, length-drop, drop_at, drop-append-le, take-append-le, take_all}
+use Rattle.std.proofs.Common.{◌≡◌, ℕ, ◌-◌, ◌≤◌, refl, ◌∙◌, ap, List, [], ◌∷◌, ◌++◌, length, map, take, drop, arith}
+use Rattle.std.specs.Prelude.{slice_range, Result, Ok, Err, OnErr}
+use Rattle.std.proofs.lemmas.List.{map-append, length-append, length-drop, drop_at, drop-append-le, take-append-le, take_all}
 use Rattle.std.proofs.lemmas.List.Elements.{All-head, All-tail}
 use Rattle.tile_bytes.specs.declared.spans.Span.{Span}
 use Rattle.tile_bytes.specs.Spans.{part_of, LiesWithin, LieWithin}

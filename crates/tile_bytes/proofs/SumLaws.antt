@@ -1,12 +1,11 @@
 -- Sums over nodes, and one node more.
-use Rattle.std.proofs.Common.{◌≡◌, ℕ, ℤ, ◌+◌, Bool, true, false, List, [], ◌∷◌, ◌++◌, length, Option, Some, None, refl, sym, ap, ◌∙◌, cond, arith}
+use Rattle.std.proofs.Common.{◌≡◌, ℕ, ℤ, ◌+◌, Bool, true, false, List, [], ◌∷◌, ◌++◌, length, Some, None, refl, sym, ap, ◌∙◌, cond, arith}
 use Rattle.std.specs.Int.{from_bool}
-use Rattle.std.proofs.lemmas.List.{length-append}
 use Rattle.std.proofs.lemmas.List.Sums.{sum_by-append}
 use Rattle.tile_records.specs.Nodes.{NodeFields}
 use Rattle.tile_records.specs.Edges.{EdgeFields}
 use Rattle.tile_bytes.specs.declared.items.Sums.{Sums}
-use Rattle.tile_bytes.specs.Items.{edges_of_nodes, transitions_of_nodes, rises, has_lower_id}
+use Rattle.tile_bytes.specs.Items.{rises, has_lower_id}
 use Rattle.tile_bytes.specs.Chains.{named_chains}
 use Rattle.tile_bytes.specs.Sums.{SumsUp, above_last}
 

@@ -1,24 +1,23 @@
 -- A tile that is read is spelled so, and a tile that is spelled is read.
-use Rattle.std.proofs.Common.{◌≡◌, ℕ, ℤ, zero, suc, pos, ◌+◌, ◌-◌, ◌*◌, ◌/◌, ◌%◌, ◌^◌, ◌<◌, ◌≤◌, Bool, true, false, List, [], ◌∷◌, ◌++◌, length, take, drop, replicate, Result, Ok, Err, refl, sym, ap, subst, ◌∙◌, append_assoc, arith}
-use Rattle.std.specs.Prelude.{All, FitsSigned, ◌-ℤ◌}
+use Rattle.std.proofs.Common.{◌≡◌, ℕ, zero, suc, ◌+◌, ◌-◌, ◌*◌, ◌^◌, ◌<◌, ◌≤◌, true, List, [], ◌∷◌, ◌++◌, length, take, drop, replicate, Ok, refl, sym, ap, subst, ◌∙◌, append_assoc, arith}
+use Rattle.std.specs.Prelude.{FitsSigned}
 use Rattle.std.specs.Int.{w32, cast_unsigned}
 use Rattle.std.specs.List.{flat_map}
 use Rattle.std.proofs.Math.Facts.{Fits-of_z, Fits-lt-pow}
 use Rattle.std.proofs.lemmas.Int.{ints}
-use Rattle.std.proofs.lemmas.Bool.{and_parts, ltb-true, leb-true, eqb-true, cases_lt}
-use Rattle.std.proofs.lemmas.List.{append-nil, length-append, length-take, length-drop, length-replicate, take-append-drop, take_at, drop_at}
+use Rattle.std.proofs.lemmas.Bool.{and_parts, ltb-true, leb-true}
+use Rattle.std.proofs.lemmas.List.{length-append, length-take, length-drop, length-replicate, take-append-drop, take_at, drop_at}
 use Rattle.std.proofs.lemmas.List.Concat.{flat_map-cons}
-use Rattle.graph_id.specs.GraphId.{level_of, tile_of_id, id_of, invalid}
+use Rattle.graph_id.specs.GraphId.{level_of, tile_of_id}
 use Rattle.tile_records.specs.Edges.{EdgeFields}
-use Rattle.tile_geometry.specs.Grid.{tile_count, corner, tile_units, columns, rows}
+use Rattle.tile_geometry.specs.Grid.{tile_count, corner}
 use Rattle.section_grammar.specs.WordBytes.{IsByteList, words_bytes, half_bytes}
-use Rattle.section_grammar.specs.Reads.{◌>>=◌}
-use Rattle.section_grammar.specs.Answers.{FailedCheck, Check}
+use Rattle.section_grammar.specs.Answers.{FailedCheck}
 use Rattle.section_grammar.proofs.ByteLists.{IsByteList-rest, IsByteList-drop}
-use Rattle.section_grammar.proofs.WordLaws.{words_bytes-length, half_length}
+use Rattle.section_grammar.proofs.WordLaws.{half_length}
 use Rattle.section_grammar.proofs.Steps.{bind_ok, ok_is}
 use Rattle.edge_info.specs.declared.infos.InfoSet.{InfoSet}
-use Rattle.edge_info.specs.Entries.{infos_bytes, starts_of}
+use Rattle.edge_info.specs.Entries.{infos_bytes}
 use Rattle.edge_info.specs.Texts.{texts_bytes, text_bytes}
 use Rattle.edge_info.specs.InfoSets.{gap, joined_bytes}
 use Rattle.tile_bytes.specs.declared.header.TheConstants.{MOST_RECORDS}
@@ -28,12 +27,12 @@ use Rattle.tile_bytes.specs.Header.{file_size, header_at, header_words, corner_w
 use Rattle.tile_bytes.specs.Items.{node_bytes, edge_bytes}
 use Rattle.tile_bytes.specs.Chains.{chain_bytes, words_of_chains}
 use Rattle.tile_bytes.specs.Sequences.{sequence_bytes, words_of_sequences}
-use Rattle.tile_bytes.specs.TileSections.{TileRecords, records_at, section_of_words, behind_words}
-use Rattle.tile_bytes.specs.Tiles.{PassesChecks, FitsHeader, header_of_tile, spelling_of, TileSpelled, has_entry}
+use Rattle.tile_bytes.specs.TileSections.{TileRecords, records_at, behind_words}
+use Rattle.tile_bytes.specs.Tiles.{PassesChecks, FitsHeader, header_of_tile, spelling_of, TileSpelled}
 use Rattle.tile_bytes.specs.TileReading.{TileLists, lists_at, behind_lists, infos_at, tile_with, after_lists, after_records, after_header, tile_at}
-use Rattle.tile_bytes.proofs.HeaderLaws.{HeaderTook, header_takes, header_again, id_below}
+use Rattle.tile_bytes.proofs.HeaderLaws.{HeaderTook, header_takes, header_again}
 use Rattle.tile_bytes.proofs.RecordSections.{RecordsGood, records_bytes, records_with, records_bytes-length}
-use Rattle.tile_bytes.proofs.ListSections.{ListsGood, ListsTook, chains_bytes-length, sequences_bytes-length, lists_take, lists_again}
+use Rattle.tile_bytes.proofs.ListSections.{ListsTook, chains_bytes-length, sequences_bytes-length, lists_take, lists_again}
 use Rattle.tile_bytes.proofs.InfoSections.{InfosTook}
 
 -- ---- the corner of a tile
@@ -200,7 +199,7 @@ module _
 
 -- ---- again
 
-texts_count : (texts : List (List ℕ)) → length texts ≤ length (texts_bytes texts)
+pub texts_count : (texts : List (List ℕ)) → length texts ≤ length (texts_bytes texts)
 unfolding text_bytes
 texts_count [] = omega arith
 texts_count (t ∷ ts) =
@@ -222,16 +221,16 @@ header_good tile passes fits = record {
   modes = passes.modes;
 }
 
-abbrev zeros_of : Tile → List ℕ
+abbrev pub zeros_of : Tile → List ℕ
 zeros_of tile = replicate (gap (length (infos_bytes tile.infos) + length (texts_bytes tile.texts))) 0
 
-abbrev back_of : Tile → List ℕ
+abbrev pub back_of : Tile → List ℕ
 back_of tile = infos_bytes tile.infos ++ (texts_bytes tile.texts ++ zeros_of tile)
 
-abbrev lists_of : Tile → List ℕ
+abbrev pub lists_of : Tile → List ℕ
 lists_of tile = flat_map chain_bytes tile.chains ++ (flat_map sequence_bytes tile.sequences ++ back_of tile)
 
-abbrev records_of : Tile → TileRecords
+abbrev pub records_of : Tile → TileRecords
 records_of tile = records_with tile.nodes tile.edges tile.transitions
 
 back_length : (tile : Tile) → length (back_of tile) ≡ length (infos_bytes tile.infos) + length (texts_bytes tile.texts) + gap (length (infos_bytes tile.infos) + length (texts_bytes tile.texts))
@@ -317,7 +316,7 @@ chained : (bytes : List ℕ) (h : Header) (r : TileRecords) (rest0 rest : List �
 unfolding tile_at
 chained bytes h r rest0 rest l s e0 e1 e2 e3 = rw (e0, e1, e2, e3) refl
 
-spelled_parts : (tile : Tile) → spelling_of tile ≡ words_bytes (header_words (header_of_tile tile)) ++ records_bytes (records_of tile) (lists_of tile)
+pub spelled_parts : (tile : Tile) → spelling_of tile ≡ words_bytes (header_words (header_of_tile tile)) ++ records_bytes (records_of tile) (lists_of tile)
 unfolding spelling_of joined_bytes
 spelled_parts tile = refl
 

@@ -1,5 +1,5 @@
 -- The chain section: for each shortcut the base edges of its chain.
-use Rattle.std.specs.Prelude.{◌≡◌, ℕ, ◌+◌, ◌*◌, ◌^◌, ◌<◌, ◌≤◌, nat_lt, nat_le, ◌==◌, ◌||◌, Bool, List, [], ◌∷◌, ◌++◌, length, drop, slice_index, Result, Ok, Err, if◌then◌else◌}
+use Rattle.std.specs.Prelude.{ℕ, ◌+◌, ◌*◌, ◌^◌, ◌<◌, nat_lt, nat_le, ◌==◌, ◌||◌, Bool, List, [], ◌∷◌, ◌++◌, length, drop, slice_index, Result, Ok, Err, if◌then◌else◌}
 use Rattle.tile_records.specs.Edges.{EdgeFields}
 use Rattle.section_grammar.specs.WordBytes.{word_in, word_bytes, words_bytes}
 use Rattle.section_grammar.specs.Reads.{◌>>=◌, read_many, AllGood}

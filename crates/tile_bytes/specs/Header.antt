@@ -1,9 +1,9 @@
 -- The header of a tile file: eight words.
-use Rattle.std.specs.Prelude.{◌≡◌, ℕ, ◌+◌, ◌-◌, ◌*◌, ◌/◌, ◌%◌, ◌^◌, ◌<◌, ◌≤◌, nat_lt, nat_le, ◌==◌, ◌&&◌, Bool, true, List, [], ◌∷◌, length, slice_index, drop, Result, Ok, Err, if◌then◌else◌}
+use Rattle.std.specs.Prelude.{◌≡◌, ℕ, ◌+◌, ◌*◌, ◌/◌, ◌%◌, ◌^◌, ◌<◌, ◌≤◌, nat_lt, nat_le, ◌==◌, ◌&&◌, Bool, true, List, [], ◌∷◌, length, slice_index, drop, Result, Ok, Err, if◌then◌else◌}
 use Rattle.std.specs.Int.{w32, cast_unsigned}
 use Rattle.graph_id.specs.GraphId.{level_of, tile_of_id, id_of, invalid}
 use Rattle.tile_geometry.specs.Grid.{tile_count, corner}
-use Rattle.section_grammar.specs.WordBytes.{words_in, words_bytes}
+use Rattle.section_grammar.specs.WordBytes.{words_in}
 use Rattle.section_grammar.specs.Answers.{FailedCheck, Check}
 use Rattle.edge_info.specs.InfoSets.{gap}
 use Rattle.tile_bytes.specs.declared.header.Header.{Header}

@@ -1,11 +1,11 @@
 -- The records of a tile and its GraphIds, and the checks on each behind those that stand before it.
-use Rattle.std.specs.Prelude.{◌≡◌, ℕ, ◌+◌, ◌*◌, ◌<◌, ◌≤◌, ℤ, pos, neg_ℤ, int_lt, nat_lt, nat_le, ◌==◌, ◌&&◌, ◌||◌, not, Bool, true, false, List, [], ◌∷◌, ◌++◌, length, drop, sum_by, Option, Some, None, Result, Ok, Err, if◌then◌else◌}
+use Rattle.std.specs.Prelude.{◌≡◌, ℕ, ◌<◌, ℤ, pos, neg_ℤ, int_lt, nat_lt, nat_le, ◌==◌, ◌&&◌, ◌||◌, not, Bool, true, List, [], ◌∷◌, length, drop, sum_by, Option, Some, None, Result, Ok, Err, if◌then◌else◌}
 use Rattle.fixed_geo.specs.declared.points.Point.{Point}
 use Rattle.graph_id.specs.GraphId.{level_of, invalid}
 use Rattle.tile_geometry.specs.Grid.{grid_tile, class_level}
 use Rattle.tile_records.specs.Nodes.{NodeFields, NodeFits, node_words, node_read}
 use Rattle.tile_records.specs.Edges.{EdgeFields, EdgeFits, edge_words, edge_read}
-use Rattle.section_grammar.specs.WordBytes.{word_in, words_in, word_bytes, words_bytes}
+use Rattle.section_grammar.specs.WordBytes.{word_in, words_in, words_bytes}
 use Rattle.section_grammar.specs.Answers.{FailedCheck, Check, place_of}
 use Rattle.tile_bytes.specs.declared.ids.LevelRule.{LevelRule}
 use Rattle.tile_bytes.specs.declared.ids.LevelRule.TheVariants as rules

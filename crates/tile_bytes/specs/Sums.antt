@@ -1,5 +1,5 @@
 -- What the reader keeps of the nodes that it has read; for its loop alone.
-use Rattle.std.specs.Prelude.{◌≡◌, ℕ, ℤ, int_lt, Bool, true, List, Option, Some, None}
+use Rattle.std.specs.Prelude.{◌≡◌, ℤ, int_lt, Bool, true, List, Option, Some, None}
 use Rattle.tile_records.specs.Nodes.{NodeFields}
 use Rattle.tile_bytes.specs.declared.items.Sums.{Sums}
 use Rattle.tile_bytes.specs.Items.{edges_of_nodes, transitions_of_nodes, rises, has_lower_id}

@@ -1,5 +1,5 @@
 -- Reading a tile file from left to right: the first check that fails, and its place.
-use Rattle.std.specs.Prelude.{◌≡◌, ℕ, ◌+◌, ◌*◌, Bool, true, List, [], ◌∷◌, length, take, drop, Result, Ok, Err, if◌then◌else◌}
+use Rattle.std.specs.Prelude.{ℕ, ◌+◌, ◌*◌, List, [], ◌∷◌, length, take, drop, Result, Ok, Err, if◌then◌else◌}
 use Rattle.tile_records.specs.Edges.{EdgeFields}
 use Rattle.section_grammar.specs.Reads.{◌>>=◌}
 use Rattle.section_grammar.specs.Answers.{FailedCheck, Check, place_of}

@@ -1,5 +1,5 @@
 -- The sections of a tile file from the nodes to the sequences, read in their order. `end` is the length of the file.
-use Rattle.std.specs.Prelude.{◌≡◌, ℕ, ◌+◌, ◌*◌, ◌&&◌, ◌==◌, List, [], length, take, drop, Result, Ok, Err, if◌then◌else◌}
+use Rattle.std.specs.Prelude.{ℕ, ◌+◌, ◌*◌, ◌&&◌, ◌==◌, List, [], length, take, drop, Result, Ok, Err, if◌then◌else◌}
 use Rattle.graph_id.specs.GraphId.{level_of, tile_of_id}
 use Rattle.tile_records.specs.Nodes.{NodeFields}
 use Rattle.tile_records.specs.Edges.{EdgeFields}

@@ -1,5 +1,5 @@
 -- Which tiles have a spelling, and which it is.
-use Rattle.std.specs.Prelude.{◌≡◌, ℕ, ◌+◌, ◌*◌, ◌^◌, ◌<◌, ◌≤◌, true, Bool, List, [], ◌∷◌, ◌++◌, length, All}
+use Rattle.std.specs.Prelude.{◌≡◌, ℕ, ◌*◌, ◌^◌, ◌<◌, ◌≤◌, true, Bool, List, [], ◌++◌, length, All}
 use Rattle.std.specs.List.{flat_map}
 use Rattle.graph_id.specs.GraphId.{level_of, tile_of_id}
 use Rattle.tile_records.specs.Edges.{EdgeFields}

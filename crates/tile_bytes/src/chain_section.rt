@@ -1,9 +1,8 @@
 //! The chain section, read.
-ghost use Rattle.std.specs.Prelude.{◌≡◌, ◌≤◌, ◌<◌, ◌^◌, ◌+◌, ◌*◌, [], ◌∷◌, length, drop, List, ℕ, true, Ok, Err, MatchOption, IfSome, IfOk};
+ghost use Rattle.std.specs.Prelude.{◌≡◌, ◌≤◌, ◌<◌, ◌^◌, ◌+◌, ◌∷◌, length, drop, List, ℕ, true, Err, MatchOption, IfSome, IfOk};
 ghost use Rattle.std.specs.Int.{from_bool};
 ghost use Rattle.tile_records.specs.Edges.{EdgeFields};
-ghost use Rattle.section_grammar.specs.Reads.{read_many};
-ghost use Rattle.section_grammar.specs.Answers.{Gives, Check, place_of};
+ghost use Rattle.section_grammar.specs.Answers.{Gives, Check};
 ghost use Rattle.tile_bytes.specs.Chains.{chain_at, chains_at, named_chains, chain_offsets, offsets_at};
 ghost use Rattle.tile_bytes.specs.TileSections.{chains_in_place};
 

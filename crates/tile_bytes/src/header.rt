@@ -5,7 +5,6 @@ ghost use Rattle.graph_id.specs.GraphId.{level_of};
 ghost use Rattle.section_grammar.specs.WordBytes.{words_in};
 ghost use Rattle.section_grammar.specs.Answers.{Gives};
 ghost use Rattle.tile_bytes.specs.Header.{corner_word, file_size, header_at, names_tile, are_modes, header_of, header_words};
-ghost use Rattle.tile_bytes.specs.Modes.{is_within};
 
 use fixed_geo::Point;
 use graph_id::GraphId;

@@ -1,6 +1,5 @@
 //! GraphIds in a tile file.
-ghost use Rattle.std.specs.Prelude.{◌≡◌, ◌≤◌, ◌-◌, length, drop, List, ℕ, IfOk};
-ghost use Rattle.graph_id.specs.GraphId.{level_of};
+ghost use Rattle.std.specs.Prelude.{◌≡◌, ◌≤◌, length, drop, List, ℕ, IfOk};
 ghost use Rattle.section_grammar.specs.Reads.{read_many};
 ghost use Rattle.section_grammar.specs.Answers.{Gives};
 ghost use Rattle.tile_bytes.specs.Items.{allows, id_at};

@@ -1,5 +1,5 @@
 //! The records of a tile, read one after the other.
-ghost use Rattle.std.specs.Prelude.{◌≡◌, ◌≤◌, ◌<◌, ◌+◌, ◌*◌, ◌^◌, ◌++◌, ◌∷◌, [], length, drop, List, ℕ, IfOk};
+ghost use Rattle.std.specs.Prelude.{◌≡◌, ◌≤◌, ◌<◌, ◌+◌, ◌^◌, ◌++◌, ◌∷◌, [], length, drop, List, IfOk};
 ghost use Rattle.std.specs.Int.{from_bool};
 ghost use Rattle.tile_records.specs.Nodes.{NodeFields};
 ghost use Rattle.tile_records.specs.Edges.{EdgeFields};

@@ -28,3 +28,4 @@ pub use read::{TileFault, read_tile};
 pub use sequences::{FEWEST_EDGES, MOST_EDGES, Sequence, Sequences, VEHICLES};
 pub use tile::Tile;
 pub use write::WriteFault;
+pub use write_whole::write_tile;

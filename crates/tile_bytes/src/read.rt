@@ -1,6 +1,5 @@
 //! Reading a tile file.
-ghost use Rattle.std.specs.Prelude.{◌≡◌, ◌≤◌, ◌<◌, ◌^◌, ◌+◌, ℕ, length, slice_index, IfOk, Ok};
-ghost use Rattle.graph_id.specs.GraphId.{level_of};
+ghost use Rattle.std.specs.Prelude.{◌≡◌, ◌≤◌, ◌<◌, ◌^◌, ℕ, length, slice_index, IfOk, Ok};
 ghost use Rattle.section_grammar.specs.Answers.{Gives};
 ghost use Rattle.edge_info.specs.Entries.{infos_bytes, starts_of};
 ghost use Rattle.edge_info.specs.EntryReading.{entries_at};

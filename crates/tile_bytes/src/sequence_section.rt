@@ -1,11 +1,9 @@
 //! The sequence section, read.
-ghost use Rattle.std.specs.Prelude.{◌≡◌, ◌≤◌, ◌*◌, ◌<◌, [], length, List, ℕ, IfOk, IfErr, OnOk};
+ghost use Rattle.std.specs.Prelude.{◌≡◌, ◌≤◌, ◌*◌, length, IfOk, OnOk};
 ghost use Rattle.std.specs.Cmp.Lexicographic.{slice_cmp};
 ghost use Rattle.std.specs.Ordering.{nat_cmp};
 ghost use Rattle.section_grammar.specs.WordBytes.{words_in};
 ghost use Rattle.section_grammar.specs.Answers.{Gives};
-ghost use Rattle.section_grammar.specs.declared.fault.SectionFault.TheVariants.{OutOfMemory};
-ghost use Rattle.tile_bytes.specs.declared.sequences.Sequence.{Sequence};
 ghost use Rattle.tile_bytes.specs.Items.{rises};
 ghost use Rattle.tile_bytes.specs.Sequences.{sequence_less, sequence_passes, first_word_passes, sequence_at, sequences_at};
 

@@ -1,4 +1,4 @@
-use Rattle.std.proofs.Common.{◌≡◌, ◌+◌, ◌∷◌, [], sym, ap, ◌∙◌, arith, eqb, Bool, true, false, not}
+use Rattle.std.proofs.Common.{◌≡◌, [], sym, ◌∙◌, true}
 use Rattle.std.proofs.lemmas.Bool.{eq-eqb, ne_eqb}
 use Rattle.tile_bytes.proofs.OffsetLaws.{offset_wrong, offset_right}
 use Rattle.tile_bytes.proofs.chain_section.after_edge.Goals as goal

@@ -1,8 +1,8 @@
-use Rattle.std.proofs.Common.{◌≡◌, ◌+◌, ◌++◌, ◌∷◌, [], rules, arith, drop, sym, ◌∙◌, ap, Result, Ok, Err, List, ℕ, length}
+use Rattle.std.proofs.Common.{◌∷◌, [], arith, sym, ◌∙◌}
 use Rattle.std.proofs.lemmas.Result.{err_from_is_err_and}
 use Rattle.std.proofs.lemmas.List.{length-append}
 use Rattle.std.proofs.lemmas.Bool.{eqb-true, eqb-false}
-use Rattle.section_grammar.specs.Reads.{◌>>=◌, read_many}
+use Rattle.section_grammar.specs.Reads.{read_many}
 use Rattle.section_grammar.specs.Answers.{ended}
 use Rattle.section_grammar.proofs.Steps.{goes_on, ends, is_done, bind_fails, filled, unfilled}
 use Rattle.tile_bytes.specs.Chains.{chain_at, chains_at}

@@ -1,4 +1,4 @@
-use Rattle.std.proofs.Common.{◌≡◌, ◌+◌, ◌++◌, ◌∷◌, [], rules, drop}
+use Rattle.std.proofs.Common.{◌≡◌, rules, drop}
 use Rattle.std.proofs.lemmas.Result.{err_from_is_err_and}
 use Rattle.section_grammar.specs.Reads.{read_many}
 use Rattle.section_grammar.proofs.Steps.{goes_on, ends, is_done}

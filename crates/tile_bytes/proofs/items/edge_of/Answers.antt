@@ -1,4 +1,4 @@
-use Rattle.std.proofs.Common.{◌≡◌, ap, sym, ◌∙◌, drop, rules}
+use Rattle.std.proofs.Common.{ap, sym, ◌∙◌}
 use Rattle.tile_records.specs.Edges.{edge_read}
 use Rattle.tile_bytes.specs.Items.{edge_passes}
 use Rattle.tile_bytes.proofs.RecordSteps.{record_read, record_refused}

@@ -1,4 +1,4 @@
-use Rattle.std.proofs.Common.{◌≡◌, ◌≤◌, ◌+◌, ◌++◌, ◌∷◌, [], refl, sym, ap, ◌∙◌, arith, rules, drop, Bool, true, false}
+use Rattle.std.proofs.Common.{◌≡◌, ◌≤◌, [], arith, rules, drop, Bool, true, false}
 use Rattle.std.specs.Int.{from_bool}
 use Rattle.std.proofs.lemmas.Result.{err_from_is_err_and}
 use Rattle.section_grammar.specs.Reads.{read_many}

@@ -1,9 +1,8 @@
-use Rattle.std.proofs.Common.{◌≡◌, ◌+◌, ◌++◌, ◌∷◌, [], refl, sym, ap, ◌∙◌, arith, rules, drop}
+use Rattle.std.proofs.Common.{◌≡◌, [], arith, rules, drop}
 use Rattle.std.proofs.lemmas.Result.{err_from_is_err_and}
 use Rattle.section_grammar.specs.Reads.{read_many}
 use Rattle.section_grammar.proofs.Steps.{goes_on, ends, is_done}
 use Rattle.tile_bytes.specs.Items.{node_at}
-use Rattle.tile_bytes.proofs.SumLaws.{sums_none}
 use Rattle.tile_bytes.proofs.items.nodes_of.Goals as goal
 
 pub returns-in_err-node-clause-nodes : goal.returns-in_err-node-clause-nodes

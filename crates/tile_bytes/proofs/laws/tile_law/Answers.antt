@@ -1,4 +1,4 @@
-use Rattle.std.proofs.Common.{◌≡◌, sym, ◌∙◌, Ok}
+use Rattle.std.proofs.Common.{sym, ◌∙◌}
 use Rattle.section_grammar.proofs.Steps.{ok_is}
 use Rattle.section_grammar.specs.Answers.{FailedCheck}
 use Rattle.tile_bytes.proofs.RecordSections.{records_take, records_again}

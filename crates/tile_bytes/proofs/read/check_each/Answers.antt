@@ -1,6 +1,5 @@
-use Rattle.std.proofs.Common.{◌≡◌, ◌+◌, ◌*◌, drop, length, sym, ◌∙◌, arith, Bool, true, false}
+use Rattle.std.proofs.Common.{◌+◌, ◌*◌, drop, sym, ◌∙◌, arith}
 use Rattle.std.proofs.lemmas.List.{length-drop}
-use Rattle.tile_bytes.specs.Tiles.{has_entry}
 use Rattle.tile_bytes.proofs.InfoSections.{entry_missing, entry_there, entries_done}
 use Rattle.tile_bytes.proofs.read.check_each.Goals as goal
 

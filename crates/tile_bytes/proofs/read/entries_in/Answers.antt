@@ -1,4 +1,4 @@
-use Rattle.std.proofs.Common.{◌≡◌, arith}
+use Rattle.std.proofs.Common.{arith}
 use Rattle.tile_bytes.proofs.Answered.{entries_spelled}
 use Rattle.tile_bytes.proofs.read.entries_in.Goals as goal
 

@@ -1,4 +1,4 @@
-use Rattle.std.proofs.Common.{◌≡◌, ap, sym, length, ◌∙◌, List, ℕ, rules}
+use Rattle.std.proofs.Common.{ap, sym, length, ◌∙◌, List, ℕ}
 use Rattle.edge_info.specs.Entries.{infos_bytes}
 use Rattle.tile_bytes.proofs.read.read_set.Goals as goal
 

@@ -1,4 +1,4 @@
-use Rattle.std.proofs.Common.{◌≡◌, subst, sym, arith}
+use Rattle.std.proofs.Common.{subst, arith}
 use Rattle.section_grammar.specs.Answers.{Gives}
 use Rattle.tile_bytes.proofs.Answered.{is_found}
 use Rattle.tile_bytes.proofs.read.read_tile.Goals as goal

@@ -1,4 +1,4 @@
-use Rattle.std.proofs.Common.{◌≡◌, ◌≤◌, length, min, ◌∙◌, arith}
+use Rattle.std.proofs.Common.{◌∙◌, arith}
 use Rattle.tile_bytes.proofs.WordLists.{compared}
 use Rattle.tile_bytes.proofs.sequence_section.compare.Goals as goal
 

@@ -1,4 +1,4 @@
-use Rattle.std.proofs.Common.{◌≡◌, ◌+◌, drop, length, rules, arith}
+use Rattle.std.proofs.Common.{◌≡◌, drop, rules, arith}
 use Rattle.std.proofs.lemmas.List.{length-drop}
 use Rattle.section_grammar.specs.WordBytes.{words_in}
 use Rattle.tile_bytes.proofs.WordLists.{word_filled}

@@ -1,4 +1,4 @@
-use Rattle.std.proofs.Common.{◌≡◌, ◌+◌, ◌++◌, ◌∷◌, [], rules, arith, length, sym, ◌∙◌, ap, List, ℕ, Result, Ok}
+use Rattle.std.proofs.Common.{◌≡◌, [], arith, length, sym, ◌∙◌}
 use Rattle.std.proofs.lemmas.Bool.{eqb-true, eqb-false}
 use Rattle.std.proofs.lemmas.Result.{err_from_is_err_and}
 use Rattle.section_grammar.specs.Reads.{read_all}
