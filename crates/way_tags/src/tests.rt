@@ -40,6 +40,15 @@ fn read_way(
     ))
 }
 
+/// What one pass reads of a way with these tags.
+fn read_whole(alloc: Global, pairs: &[(&str, &str)]) -> Result<Option<RoadTags>, AllocError> {
+    let ways = way_with(alloc, pairs)?;
+    if ways.is_empty() {
+        return Ok(None);
+    }
+    Ok(read_road(ways.at(0).tags()))
+}
+
 /// Whether a node with these tags is a barrier, and who may pass it.
 fn read_node(alloc: Global, pairs: &[(&str, &str)]) -> Result<(bool, u16), AllocError> {
     let ways = way_with(alloc, pairs)?;
@@ -67,6 +76,20 @@ fn names_are(alloc: Global, pairs: &[(&str, &str)], want: &[&str]) -> Result<boo
         }
     }
     Ok(true)
+}
+
+#[test]
+fn roads_are_read_in_one_pass(rt: HostRuntime) -> Result<(), Fail> {
+    let alloc = rt.alloc();
+    let motorway = read_whole(alloc, &[("highway", "motorway"), ("ref", "A1")])?;
+    let expected = RoadTags {
+        class: 0,
+        forward: 73,
+        backward: 0,
+    };
+    assert!(rt; motorway == Some(expected));
+    assert!(rt; read_whole(alloc, &[("highway", "raceway")])? == None);
+    Ok(())
 }
 
 #[test]

@@ -1,7 +1,8 @@
 //! What the tags of a way say.
 
-ghost use Rattle.std.specs.Prelude.{◌≡◌, ◌<◌, ◌↔◌, ◌||◌, option_map, bit_and, [], ◌∷◌, codes, if◌then◌else◌};
+ghost use Rattle.std.specs.Prelude.{◌≡◌, ◌<◌, ◌↔◌, ◌||◌, Some, option_map, bit_and, [], ◌∷◌, codes, if◌then◌else◌};
 ghost use Rattle.way_tags.specs.declared.directions.Oneway.TheVariants as ways;
+ghost use Rattle.way_tags.specs.declared.directions.Dir.TheVariants as dirs;
 ghost use Rattle.way_tags.specs.Modes.{Mode, HasMode, word_of, is_listed};
 ghost use Rattle.way_tags.specs.Values.{has_value_among};
 ghost use Rattle.way_tags.specs.Oneways.{oneway_by_tags, is_along, is_exempt};
@@ -44,6 +45,39 @@ pub fn access_of(tags: &TagsView<'_>, direction: Dir) -> u16
     let places = places_of(tags);
     let open = open_modes(tags, &places);
     open & modes_along(tags, &places, direction)
+}
+
+/// A road by the tags of its way: its class, and the modes that may use it in each direction.
+#[derive(Clone, Copy, Debug, PartialEq, Eq)]
+pub struct RoadTags {
+    pub class: u8,
+    pub forward: u16,
+    pub backward: u16,
+}
+
+/// What `class_of` and `access_of` answer, with one pass over the tags: none where the way is no road.
+pub fn read_road(tags: &TagsView<'_>) -> Option<RoadTags>
+    ensures { result ≡ option_map (λ class. record { class = class; forward = road_access tags.now dirs.Forward; backward = road_access tags.now dirs.Backward }) (road_class tags.now) }
+{
+    let places = places_of(tags);
+    match road(tags, &places) {
+        Some(road) => Some(RoadTags {
+            class: road.class,
+            forward: used_modes(tags, &places, road, Dir::Forward),
+            backward: used_modes(tags, &places, road, Dir::Backward),
+        }),
+        None => None,
+    }
+}
+
+/// The modes that may use this road in a direction.
+fn used_modes(tags: &TagsView<'_>, places: &Places, road: Road, direction: Dir) -> u16
+    requires places { ArePlaces tags.now 0 places.now }
+    requires road { Some road ≡ option_map (λ row. record { class = row.class; modes = word_of (is_listed row.modes) }) (road_row tags.now) }
+    ensures { result ≡ road_access tags.now direction }
+{
+    let open = decided_modes(tags, places, road.modes);
+    open & modes_along(tags, places, direction)
 }
 
 /// The road that a way is.
