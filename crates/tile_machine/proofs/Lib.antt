@@ -6,4 +6,5 @@ pub mod Begins
 pub mod Carried
 pub mod EveryEvent
 pub mod Runs
+pub mod ClaimKept
 pub mod ClaimsStay
