@@ -5,10 +5,10 @@ use Rattle.std.proofs.lemmas.List.{length-map}
 use Rattle.std.proofs.Math.ListN.{get_elem?, length-set}
 use mathlib.Core.Option.{some, some-injective}
 use Rattle.tile_machine.specs.At.{At}
-use Rattle.tile_machine.specs.Bridges.{at_read, at-map, read_at}
+use Rattle.tile_machine.proofs.Bridges.{at_read, at-map, read_at}
 use Rattle.tile_table.specs.declared.seat.Closed.{Closed}
 use Rattle.tile_table.specs.Views.{tiles_by}
-use Rattle.phase_run.specs.Rest.{TilesOf, ByFlags}
+use Rattle.phase_run.specs.Inner.Rest.{TilesOf, ByFlags}
 
 same-or-not : (i k : ℕ) → (i ≡ k) ⊎ (k ≢ i)
 same-or-not zero zero = inl refl

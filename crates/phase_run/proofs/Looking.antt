@@ -1,4 +1,4 @@
--- tries of a turn one after the other, and what is read under it
+-- tries of a lock one after the other, and what is read under it
 use Rattle.std.proofs.Common.{◌≡◌, ℕ, zero, suc, ◌+◌, ◌-◌, ◌<◌, ◌≤◌, Bool, true, false, List, [], ◌∷◌, ◌++◌, length, length-append, map, refl, ap, sym, ◌∙◌, subst, ⊎_elim, arith}
 use Rattle.std.proofs.lemmas.List.{append-nil, append_assoc}
 use Rattle.std.proofs.lemmas.List.Elements.{All-nil, All-push}
@@ -10,13 +10,14 @@ use Rattle.tile_table.specs.declared.view.View.{View}
 use Rattle.tile_table.specs.declared.view.Hand.TheVariants.{Empty}
 use Rattle.tile_table.specs.declared.seat.Seat.{Seat}
 use Rattle.tile_table.specs.declared.seat.Turn.{Turn}
-use Rattle.tile_table.specs.Counts.{times, pairs}
+use Rattle.tile_table.specs.Counts.{times_in, pairs_in}
 use Rattle.tile_table.specs.Views.{tiles_by, with_no_hand, IsAnother}
-use Rattle.tile_table.specs.Calls.{TurnHad, TurnMissed, TurnHadOnce, PartSeen}
+use Rattle.tile_table.specs.Calls.{TurnHad, LockMissed, LockedOnce, PartSeen}
 use Rattle.tile_table.specs.Seats.{view, seat_name, turn_place, turn_tile, turn_marked}
 use Rattle.phase_run.specs.Tries.{GainedTries}
-use Rattle.phase_run.specs.Looks.{IsAlone, Unchanged, Loses, TookOne, TurnGot, Looked, Shown}
-use Rattle.phase_run.specs.Stays.{unchanged-same, unchanged-on}
+use Rattle.tile_table.specs.Stays.{IsAlone, Unchanged, Loses, TookOne, Looked, Shown}
+use Rattle.phase_run.specs.Inner.Workers.{TurnGot}
+use Rattle.tile_table.proofs.Staying.{unchanged-same, unchanged-on}
 
 -- no try yet
 pub no-tries : (j holder : ℕ) (xs : List (ℕ × ℕ)) → GainedTries j holder 0 xs xs
@@ -61,7 +62,7 @@ pub longer : (j holder : ℕ) (xs ys : List (ℕ × ℕ)) → GainedTries j hold
 longer j holder xs ys h = omega (arith, ap length h.gained, length-append xs h.tries, h.many)
 
 module _ {T : Type 0} where
-  -- what a seat knows after a number of tries of a turn, all in vain
+  -- what a seat knows after a number of tries of a lock, all in vain
   pub record Trying (before : View T) (j holder count : ℕ) (after : View T) : Type 0 where
     pub hand : after.hand ≡ Empty
     pub unchanged : Unchanged before after
@@ -76,7 +77,7 @@ module _ {T : Type 0} where
   no-other : (v : View T) (w : ℕ) → IsAlone v → IsAnother w v → ⊥
   no-other v w alone other = ⊎_elim (λ below. omega (arith, alone.0, below)) (λ above. omega (arith, alone.1, other.0, above)) other.1
 
-  pub tries-again : (v : View T) (j holder count : ℕ) (w u : View T) (other : ℕ) → Trying v j other count w → TurnMissed w j holder u
+  pub tries-again : (v : View T) (j holder count : ℕ) (w u : View T) (other : ℕ) → Trying v j other count w → LockMissed w j holder u
       → Trying v j holder (count + 1) u
   tries-again v j holder count w u other so_far missed =
       let e = missed.view in
@@ -118,7 +119,7 @@ module _ {T : Type 0} where
     pub loses : Loses before after
     pub few : length after.lost < length before.lost + 1000
 
-  pub looks : (v : View T) (j other count : ℕ) (w u : View T) → count < 1000 → Trying v j other count w → TurnHadOnce w j u → LookHad v j u
+  pub looks : (v : View T) (j other count : ℕ) (w u : View T) → count < 1000 → Trying v j other count w → LockedOnce w j u → LookHad v j u
   looks v j other count w u few so_far had =
       let e = had.view in
       record {
@@ -154,12 +155,12 @@ module _ {T : Type 0} where
       (subst (λ ts. At (map readable (tiles_by seen.marked w.world ts)) j p) so_far.unchanged.goal seen.stands))
       shown.0 shown.1
 
-  pub claimed-kept : (v : View T) (j holder count : ℕ) (w : View T) → Trying v j holder count w → 0 < pairs v.first j v.claims → 0 < pairs w.first j w.claims
+  pub claimed-kept : (v : View T) (j holder count : ℕ) (w : View T) → Trying v j holder count w → 0 < pairs_in v.first j v.claims → 0 < pairs_in w.first j w.claims
   claimed-kept v j holder count w so_far claimed =
-      subst (λ n. 0 < pairs n j w.claims) (sym so_far.unchanged.first) (subst (λ cs. 0 < pairs v.first j cs) (sym so_far.unchanged.claims) claimed)
+      subst (λ n. 0 < pairs_in n j w.claims) (sym so_far.unchanged.first) (subst (λ cs. 0 < pairs_in v.first j cs) (sym so_far.unchanged.claims) claimed)
 
 module _ {X T Q : Type 0} where
-  -- a turn that was had after these tries
+  -- a lock that was had after these tries
   pub gets : (v : View T) (j other count : ℕ) (w u : View T) (turn : Turn X T Q) → count < 1000 → Trying v j other count w → TurnHad w j turn u → TurnGot v j turn u
   gets v j other count w u turn few so_far had =
       let e = had.view in
@@ -184,11 +185,11 @@ module _ {X T Q : Type 0} where
         few = omega (arith, few, ap (λ x. length x.lost) e, ap length so_far.gained.gained, length-append v.lost so_far.gained.tries, so_far.gained.many);
         own_claim =
             λ claimed unmarked. had.own_claim
-            (subst (λ n. 0 < pairs n j w.claims) (sym same.first) (subst (λ cs. 0 < pairs v.first j cs) (sym same.claims) claimed))
-            (ap (λ ms. times j ms) same.marks ∙ unmarked);
+            (subst (λ n. 0 < pairs_in n j w.claims) (sym same.first) (subst (λ cs. 0 < pairs_in v.first j cs) (sym same.claims) claimed))
+            (ap (λ ms. times_in j ms) same.marks ∙ unmarked);
       }
 
-  -- the tile of a turn stands among the tiles of the view before
+  -- the tile of a lock stands among the tiles of the view before
   stands-there : (v w : View T) (j : ℕ) (turn : Turn X T Q) → TurnGot v j turn w → At (tiles_by (turn_marked turn) v.world v.goal) j (turn_tile turn)
   stands-there v w j turn got =
       let m = turn_marked turn in
@@ -197,28 +198,28 @@ module _ {X T Q : Type 0} where
       (subst (λ n. At (tiles_by m w.world w.goal) n (turn_tile turn)) got.place got.turn.stands))
 
   -- a tile that the seat has claimed and not marked is the world's
-  pub reads-world : (v w : View T) (i : ℕ) (turn : Turn X T Q) (t : T) → TurnGot v i turn w → 0 < pairs v.first i v.claims → times i v.marks ≡ 0
+  pub reads-world : (v w : View T) (i : ℕ) (turn : Turn X T Q) (t : T) → TurnGot v i turn w → 0 < pairs_in v.first i v.claims → times_in i v.marks ≡ 0
       → t ≡ turn_tile turn → At v.world i t
   reads-world v w i turn t got claimed unmarked is =
       subst (λ u. At v.world i u) (sym is)
       (subst (λ m. At (tiles_by m v.world v.goal) i (turn_tile turn)) (got.own_claim claimed unmarked) (stands-there v w i turn got))
 
-  -- a turn of a place that was claimed, and not marked, is one of a claimed and unmarked place
-  pub claimed-still : (v w : View T) (i : ℕ) (turn : Turn X T Q) → TurnGot v i turn w → 0 < pairs v.first i v.claims → 0 < pairs w.first (turn_place turn) w.claims
+  -- a lock of a place that was claimed, and not marked, is one of a claimed and unmarked place
+  pub claimed-still : (v w : View T) (i : ℕ) (turn : Turn X T Q) → TurnGot v i turn w → 0 < pairs_in v.first i v.claims → 0 < pairs_in w.first (turn_place turn) w.claims
   claimed-still v w i turn got claimed =
-      subst (λ n. 0 < pairs w.first n w.claims) (sym got.place)
-      (subst (λ n. 0 < pairs n i w.claims) (sym got.unchanged.first) (subst (λ cs. 0 < pairs v.first i cs) (sym got.unchanged.claims) claimed))
+      subst (λ n. 0 < pairs_in w.first n w.claims) (sym got.place)
+      (subst (λ n. 0 < pairs_in n i w.claims) (sym got.unchanged.first) (subst (λ cs. 0 < pairs_in v.first i cs) (sym got.unchanged.claims) claimed))
 
-  pub unmarked-still : (v w : View T) (i : ℕ) (turn : Turn X T Q) → TurnGot v i turn w → times i v.marks ≡ 0 → times (turn_place turn) w.marks ≡ 0
+  pub unmarked-still : (v w : View T) (i : ℕ) (turn : Turn X T Q) → TurnGot v i turn w → times_in i v.marks ≡ 0 → times_in (turn_place turn) w.marks ≡ 0
   unmarked-still v w i turn got unmarked =
-      subst (λ n. times n w.marks ≡ 0) (sym got.place) (ap (λ ms. times i ms) got.unchanged.marks ∙ unmarked)
+      subst (λ n. times_in n w.marks ≡ 0) (sym got.place) (ap (λ ms. times_in i ms) got.unchanged.marks ∙ unmarked)
 
   pub goal-still : (v w : View T) (i : ℕ) (turn : Turn X T Q) (t : T) → TurnGot v i turn w → At v.goal i t → At w.goal (turn_place turn) t
   goal-still v w i turn t got at =
       subst (λ n. At w.goal n t) (sym got.place) (subst (λ ts. At ts i t) (sym got.unchanged.goal) at)
 
 module _ {X T Q : Type 0} {g : Ghosts X T Q} where
-  -- a turn was had and given back
+  -- a lock was had and given back
   pub gives-back : (a b c : Seat X T Q g) → seat_name b ≡ seat_name a → Unchanged (view a) (view b) → Loses (view a) (view b) → seat_name c ≡ seat_name b
       → view c ≡ with_no_hand (view b) → Looked a c
   gives-back a b c name same loses again e =

@@ -11,36 +11,36 @@ use Rattle.tile_table.specs.declared.view.Hand.TheVariants.{Empty}
 use Rattle.tile_table.specs.declared.seat.Seat.{Seat}
 use Rattle.tile_table.specs.declared.seat.Closed.{Closed}
 use Rattle.tile_table.specs.declared.table.TileTable.{TileTable}
-use Rattle.tile_table.specs.Counts.{bit, same, times, pairs}
+use Rattle.tile_table.specs.Counts.{bit, same, times_in, pairs_in}
 use Rattle.tile_table.specs.Views.{opening_view, tiles_by, with_claim, with_seen, with_mark, with_no_hand, lower, upper, joined}
 use Rattle.tile_table.specs.Calls.{ClosedBy}
 use Rattle.tile_table.specs.Seats.{view, seat_name, IsAt}
 use Rattle.phase_run.specs.declared.worker.Visit.{Visit}
 use Rattle.phase_run.specs.declared.worker.Visit.TheVariants.{Finished, PutOff, Passed}
-use Rattle.phase_run.specs.Looks.{IsAlone, Unchanged, Loses, Looked}
-use Rattle.phase_run.specs.Workers.{Ready, Worked, Visited, Ended, ClaimedNow, Visits, Accounts, Waiting, Finishes, GoesOver, WentOver, FinishesClaims}
-use Rattle.phase_run.specs.Rest.{TilesOf}
+use Rattle.tile_table.specs.Stays.{IsAlone, Unchanged, Loses, Looked}
+use Rattle.phase_run.specs.Inner.Workers.{Ready, Worked, Visited, Ended, ClaimedNow, Visits, Accounts, Waiting, Finishes, GoesOver, WentOver, FinishesClaims}
+use Rattle.phase_run.specs.Inner.Rest.{TilesOf}
 
-pairs-more : (a b : ℕ) (xs ys : List (ℕ × ℕ)) → pairs a b xs ≤ pairs a b (xs ++ ys)
+pairs-more : (a b : ℕ) (xs ys : List (ℕ × ℕ)) → pairs_in a b xs ≤ pairs_in a b (xs ++ ys)
 pairs-more a b [] ys = omega arith
 pairs-more a b (p ∷ xs) ys = omega (arith, pairs-more a b xs ys)
 
 eqb-same : (a : ℕ) → same a a ≡ 1
 eqb-same a = grind arith
 
-pairs-last : (a b : ℕ) (xs : List (ℕ × ℕ)) → 0 < pairs a b (xs ++ (a, b) ∷ [])
+pairs-last : (a b : ℕ) (xs : List (ℕ × ℕ)) → 0 < pairs_in a b (xs ++ (a, b) ∷ [])
 pairs-last a b [] = grind arith
 pairs-last a b (p ∷ xs) = omega (arith, pairs-last a b xs)
 
-times-more : (a : ℕ) (xs ys : List ℕ) → times a xs ≤ times a (xs ++ ys)
+times-more : (a : ℕ) (xs ys : List ℕ) → times_in a xs ≤ times_in a (xs ++ ys)
 times-more a [] ys = omega arith
 times-more a (x ∷ xs) ys = omega (arith, times-more a xs ys)
 
-times-last : (a : ℕ) (xs : List ℕ) → 0 < times a (xs ++ a ∷ [])
+times-last : (a : ℕ) (xs : List ℕ) → 0 < times_in a (xs ++ a ∷ [])
 times-last a [] = grind arith
 times-last a (x ∷ xs) = omega (arith, times-last a xs)
 
-times-append : (a : ℕ) (xs ys : List ℕ) → times a (xs ++ ys) ≡ times a xs + times a ys
+times-append : (a : ℕ) (xs ys : List ℕ) → times_in a (xs ++ ys) ≡ times_in a xs + times_in a ys
 times-append a [] ys = omega arith
 times-append a (x ∷ xs) ys = omega (arith, times-append a xs ys)
 
@@ -48,23 +48,23 @@ same-ne : (a b : ℕ) → a ≢ b → same a b ≡ 0
 same-ne a b ne = ap bit (ne_eqb a b ne)
 
 -- a pair that stands in a list with one more at its end stands in the list, or is that one
-pairs-back : (a b c d : ℕ) (xs : List (ℕ × ℕ)) → 0 < pairs a b (xs ++ (c, d) ∷ []) → (0 < pairs a b xs) ⊎ (b ≡ d)
+pairs-back : (a b c d : ℕ) (xs : List (ℕ × ℕ)) → 0 < pairs_in a b (xs ++ (c, d) ∷ []) → (0 < pairs_in a b xs) ⊎ (b ≡ d)
 pairs-back a b c d [] h = inr (sym (second c a d b h))
   where
     second : (c a d b : ℕ) → 0 < bit ((c == a) && (d == b)) + 0 → d ≡ b
     second c a d b h = grind arith
 pairs-back a b c d (p ∷ xs) h =
-    elim ((p.0 == a) && (p.1 == b)) as (λ t. 0 < bit t + pairs a b (xs ++ (c, d) ∷ []) → (0 < bit t + pairs a b xs) ⊎ (b ≡ d)) [
+    elim ((p.0 == a) && (p.1 == b)) as (λ t. 0 < bit t + pairs_in a b (xs ++ (c, d) ∷ []) → (0 < bit t + pairs_in a b xs) ⊎ (b ≡ d)) [
       | true ↦ λ h. inl (omega arith)
       | false ↦ λ h. ⊎_elim (λ t. inl (omega (arith, t))) (λ e. inr e) (pairs-back a b c d xs (omega (arith, h)))
     ] h
 
 module _ {T : Type 0} where
-  pub claimed-still : (v w : View T) (by i : ℕ) (added : List (ℕ × ℕ)) → w.claims ≡ v.claims ++ added → 0 < pairs by i v.claims → 0 < pairs by i w.claims
-  claimed-still v w by i added e h = subst (λ xs. 0 < pairs by i xs) (sym e) (omega (arith, h, pairs-more by i v.claims added))
+  pub claimed-still : (v w : View T) (by i : ℕ) (added : List (ℕ × ℕ)) → w.claims ≡ v.claims ++ added → 0 < pairs_in by i v.claims → 0 < pairs_in by i w.claims
+  claimed-still v w by i added e h = subst (λ xs. 0 < pairs_in by i xs) (sym e) (omega (arith, h, pairs-more by i v.claims added))
 
-  seen-still : (v w : View T) (i by : ℕ) (added : List (ℕ × ℕ)) → w.seen ≡ v.seen ++ added → 0 < pairs i by v.seen → 0 < pairs i by w.seen
-  seen-still v w i by added e h = subst (λ xs. 0 < pairs i by xs) (sym e) (omega (arith, h, pairs-more i by v.seen added))
+  seen-still : (v w : View T) (i by : ℕ) (added : List (ℕ × ℕ)) → w.seen ≡ v.seen ++ added → 0 < pairs_in i by v.seen → 0 < pairs_in i by w.seen
+  seen-still v w i by added e h = subst (λ xs. 0 < pairs_in i by xs) (sym e) (omega (arith, h, pairs-more i by v.seen added))
 
   -- what was visited stays so where the lists grow
   pub visited-still : (v w : View T) (i : ℕ) (claims seen : List (ℕ × ℕ)) → w.claims ≡ v.claims ++ claims → w.seen ≡ v.seen ++ seen
@@ -75,7 +75,7 @@ module _ {T : Type 0} where
   claim-visited : (v w : View T) (i k : ℕ) → ClaimedNow v i w → (i ≡ k) ⊎ Visited v k → Visited w k
   claim-visited v w i k now h =
       ⊎_elim
-      (λ e. inl (v.first, subst (λ xs. 0 < pairs v.first k xs) (sym now.claims) (subst (λ n. 0 < pairs v.first k (v.claims ++ (v.first, n) ∷ [])) (sym e) (pairs-last v.first k v.claims))))
+      (λ e. inl (v.first, subst (λ xs. 0 < pairs_in v.first k xs) (sym now.claims) (subst (λ n. 0 < pairs_in v.first k (v.claims ++ (v.first, n) ∷ [])) (sym e) (pairs-last v.first k v.claims))))
       (λ before. visited-still v w k ((v.first, i) ∷ []) [] now.claims (now.seen ∙ sym (append-nil v.seen)) before)
       h
 
@@ -86,7 +86,7 @@ module _ {T : Type 0} where
   visit-adds Passed v w i k here h =
       let by = here.2 in
       ⊎_elim
-      (λ e. inr (by.0, subst (λ xs. 0 < pairs k by.0 xs) (sym by.1) (subst (λ n. 0 < pairs k by.0 (v.seen ++ (n, by.0) ∷ [])) (sym e) (pairs-last k by.0 v.seen))))
+      (λ e. inr (by.0, subst (λ xs. 0 < pairs_in k by.0 xs) (sym by.1) (subst (λ n. 0 < pairs_in k by.0 (v.seen ++ (n, by.0) ∷ [])) (sym e) (pairs-last k by.0 v.seen))))
       (λ before. visited-still v w k [] ((i, by.0) ∷ []) (here.0 ∙ sym (append-nil v.claims)) by.1 before)
       h
 
@@ -100,42 +100,42 @@ module _ {T : Type 0} where
 
   finished-here : (v w : View T) (i : ℕ) → w.claims ≡ v.claims ++ (v.first, i) ∷ [] → w.marks ≡ v.marks ++ i ∷ [] → FinishesClaims v → FinishesClaims w
   finished-here v w i c m before by k h =
-      subst (λ ms. 0 < times k ms) (sym m)
+      subst (λ ms. 0 < times_in k ms) (sym m)
       (⊎_elim
       (λ old. omega (arith, before by k old, times-more k v.marks (i ∷ [])))
-      (λ e. subst (λ n. 0 < times k (v.marks ++ n ∷ [])) e (times-last k v.marks))
-      (pairs-back by k v.first i v.claims (subst (λ cs. 0 < pairs by k cs) c h)))
+      (λ e. subst (λ n. 0 < times_in k (v.marks ++ n ∷ [])) e (times-last k v.marks))
+      (pairs-back by k v.first i v.claims (subst (λ cs. 0 < pairs_in by k cs) c h)))
 
   -- where no try is lost, each claim is followed by a mark
   finishes-more : (visit : Visit) (v w : View T) (i : ℕ) → Visits visit v i w → w.lost ≡ v.lost → FinishesClaims v → FinishesClaims w
   finishes-more Finished v w i here none before = finished-here v w i here.0.claims here.1 before
   finishes-more PutOff v w i here none before = absurd (omega (arith, ap length none, here.1.1))
   finishes-more Passed v w i here none before =
-      λ by k h. subst (λ ms. 0 < times k ms) (sym here.1) (before by k (subst (λ cs. 0 < pairs by k cs) here.0 h))
+      λ by k h. subst (λ ms. 0 < times_in k ms) (sym here.1) (before by k (subst (λ cs. 0 < pairs_in by k cs) here.0 h))
 
   -- where the claims and marks are the same, the same places wait
   waits-same : (v w : View T) (places : List ℕ) → w.world ≡ v.world → w.first ≡ v.first → w.claims ≡ v.claims → w.marks ≡ v.marks → Waiting v places → Waiting w places
   waits-same v w places world first claims marks waiting i some_times =
       let h = waiting i some_times in (
         omega (arith, h.0, ap length world),
-        subst (λ n. 0 < pairs n i w.claims) (sym first) (subst (λ cs. 0 < pairs v.first i cs) (sym claims) h.1),
-        omega (arith, h.2, ap (times i) marks),
+        subst (λ n. 0 < pairs_in n i w.claims) (sym first) (subst (λ cs. 0 < pairs_in v.first i cs) (sym claims) h.1),
+        omega (arith, h.2, ap (times_in i) marks),
       )
 
   -- none of them is the place that was just claimed
-  other-waits : (v : View T) (places : List ℕ) (i k : ℕ) → Waiting v places → ((by : ℕ) → pairs by i v.claims ≡ 0) → 0 < times k places → i ≢ k
+  other-waits : (v : View T) (places : List ℕ) (i k : ℕ) → Waiting v places → ((by : ℕ) → pairs_in by i v.claims ≡ 0) → 0 < times_in k places → i ≢ k
   other-waits v places i k waiting unclaimed some_times e =
-      omega (arith, (waiting k some_times).1, subst (λ n. pairs v.first n v.claims ≡ 0) e (unclaimed v.first))
+      omega (arith, (waiting k some_times).1, subst (λ n. pairs_in v.first n v.claims ≡ 0) e (unclaimed v.first))
 
   -- the places wait still, after another was claimed and maybe finished
   waits-claimed : (v w : View T) (places added : List ℕ) (i : ℕ) → w.world ≡ v.world → w.first ≡ v.first → ClaimedNow v i w → w.marks ≡ v.marks ++ added
-      → ((k : ℕ) → i ≢ k → times k added ≡ 0) → Waiting v places → Waiting w places
+      → ((k : ℕ) → i ≢ k → times_in k added ≡ 0) → Waiting v places → Waiting w places
   waits-claimed v w places added i world first now marks none waiting k some_times =
       let h = waiting k some_times in
       let ne = other-waits v places i k waiting now.unclaimed some_times in (
         omega (arith, h.0, ap length world),
-        subst (λ n. 0 < pairs n k w.claims) (sym first) (claimed-still v w v.first k ((v.first, i) ∷ []) now.claims h.1),
-        omega (arith, h.2, ap (times k) marks, times-append k v.marks added, none k ne),
+        subst (λ n. 0 < pairs_in n k w.claims) (sym first) (claimed-still v w v.first k ((v.first, i) ∷ []) now.claims h.1),
+        omega (arith, h.2, ap (times_in k) marks, times-append k v.marks added, none k ne),
       )
 
   pub visit-waits : (visit : Visit) (v w : View T) (places : List ℕ) (i : ℕ) → w.world ≡ v.world → w.first ≡ v.first → Visits visit v i w → Waiting v places → Waiting w places
@@ -152,16 +152,16 @@ module _ {T : Type 0} where
       dite (ℕ_discrete i k)
       (λ q. (
         omega (arith, inside, ap length world, q),
-        subst (λ n. 0 < pairs n k w.claims) (sym first)
-            (subst (λ cs. 0 < pairs v.first k cs) (sym here.0.claims) (subst (λ n. 0 < pairs v.first k (v.claims ++ (v.first, n) ∷ [])) (sym q) (pairs-last v.first k v.claims))),
-        subst (λ n. times n w.marks + times n (places ++ i ∷ []) ≡ 1) q
-            (omega (arith, ap (times i) here.1.0, here.0.unmarked, times-append i places (i ∷ []), eqb-same i, none-there)),
+        subst (λ n. 0 < pairs_in n k w.claims) (sym first)
+            (subst (λ cs. 0 < pairs_in v.first k cs) (sym here.0.claims) (subst (λ n. 0 < pairs_in v.first k (v.claims ++ (v.first, n) ∷ [])) (sym q) (pairs-last v.first k v.claims))),
+        subst (λ n. times_in n w.marks + times_in n (places ++ i ∷ []) ≡ 1) q
+            (omega (arith, ap (times_in i) here.1.0, here.0.unmarked, times-append i places (i ∷ []), eqb-same i, none-there)),
       ))
       (λ ne. let h = visit-waits PutOff v w places i world first here waiting k (omega (arith, some_times, times-append k places (i ∷ []), same-ne i k ne)) in
       (h.0, h.1, omega (arith, h.2, times-append k places (i ∷ []), same-ne i k ne)))
     where
-      none-there : times i places ≡ 0
-      none-there = dite (ℕ_discrete (times i places) 0) (λ e. e) (λ ne. absurd (other-waits v places i i waiting here.0.unclaimed (omega (arith, ne)) refl))
+      none-there : times_in i places ≡ 0
+      none-there = dite (ℕ_discrete (times_in i places) 0) (λ e. e) (λ ne. absurd (other-waits v places i i waiting here.0.unclaimed (omega (arith, ne)) refl))
 
   pub noted-waits : (visit : Visit) (v w : View T) (places more : List ℕ) (i : ℕ) → i < length v.world → w.world ≡ v.world → w.first ≡ v.first → Visits visit v i w → Waiting v places
       → (more ≡ places) ⊎ ((visit ≡ PutOff) × (more ≡ places ++ i ∷ [])) → Waiting w more
@@ -172,13 +172,13 @@ module _ {T : Type 0} where
       noted
 
   pub none-waits : (v : View T) (places : List ℕ) → places ≡ [] → Waiting v places
-  none-waits v places e i some_times = absurd (omega (arith, ap (times i) e, some_times))
+  none-waits v places e i some_times = absurd (omega (arith, ap (times_in i) e, some_times))
 
   -- what is known of the last one
   pub last-waits : (v : View T) (places rest : List ℕ) (i : ℕ) → places ≡ rest ++ i ∷ [] → Waiting v places
-      → (i < length v.world) × (0 < pairs v.first i v.claims) × (times i v.marks ≡ 0) × (times i rest ≡ 0)
+      → (i < length v.world) × (0 < pairs_in v.first i v.claims) × (times_in i v.marks ≡ 0) × (times_in i rest ≡ 0)
   last-waits v places rest i e waiting =
-      let count : times i places ≡ times i rest + 1 = ap (times i) e ∙ times-append i rest (i ∷ []) ∙ omega (arith, eqb-same i) in
+      let count : times_in i places ≡ times_in i rest + 1 = ap (times_in i) e ∙ times-append i rest (i ∷ []) ∙ omega (arith, eqb-same i) in
       let h = waiting i (omega (arith, count)) in
       (h.0, h.1, omega (arith, h.2, count), omega (arith, h.2, count))
 
@@ -187,16 +187,16 @@ module _ {T : Type 0} where
       → Ended is_done v i w → Waiting v places → Waiting w rest
   rest-waits is_done v w places rest i world first claims e ended waiting k some_times =
       let last = last-waits v places rest i e waiting in
-      let ne : i ≢ k = λ q. omega (arith, some_times, subst (λ n. times n rest ≡ 0) q last.3) in
-      let h = waiting k (omega (arith, ap (times k) e, times-append k rest (i ∷ []), some_times)) in (
+      let ne : i ≢ k = λ q. omega (arith, some_times, subst (λ n. times_in n rest ≡ 0) q last.3) in
+      let h = waiting k (omega (arith, ap (times_in k) e, times-append k rest (i ∷ []), some_times)) in (
         omega (arith, h.0, ap length world),
-        subst (λ n. 0 < pairs n k w.claims) (sym first) (subst (λ cs. 0 < pairs v.first k cs) (sym claims) h.1),
-        omega (arith, h.2, ap (times k) e, times-append k rest (i ∷ []), same-ne i k ne, ended-else is_done v w i k ne ended),
+        subst (λ n. 0 < pairs_in n k w.claims) (sym first) (subst (λ cs. 0 < pairs_in v.first k cs) (sym claims) h.1),
+        omega (arith, h.2, ap (times_in k) e, times-append k rest (i ∷ []), same-ne i k ne, ended-else is_done v w i k ne ended),
       )
     where
-      ended-else : (is_done : Bool) (v w : View T) (i k : ℕ) → i ≢ k → Ended is_done v i w → times k w.marks ≡ times k v.marks
-      ended-else true v w i k ne ended = omega (arith, ap (times k) ended, times-append k v.marks (i ∷ []), same-ne i k ne)
-      ended-else false v w i k ne ended = ap (times k) ended.0
+      ended-else : (is_done : Bool) (v w : View T) (i k : ℕ) → i ≢ k → Ended is_done v i w → times_in k w.marks ≡ times_in k v.marks
+      ended-else true v w i k ne ended = omega (arith, ap (times_in k) ended, times-append k v.marks (i ∷ []), same-ne i k ne)
+      ended-else false v w i k ne ended = ap (times_in k) ended.0
 
   pub finishes-nothing : (v : View T) → Finishes v v
   finishes-nothing v = record { claims = refl; seen = refl; marks = λ i. omega arith; many = omega arith }
@@ -206,14 +206,14 @@ module _ {T : Type 0} where
       record {
         claims = claims ∙ so_far.claims;
         seen = seen ∙ so_far.seen;
-        marks = λ k. omega (arith, so_far.marks k, ap (times k) ended, times-append k v.marks (i ∷ []));
+        marks = λ k. omega (arith, so_far.marks k, ap (times_in k) ended, times-append k v.marks (i ∷ []));
         many = omega (arith, so_far.many, ap length ended, length-append v.marks (i ∷ []));
       }
   finishes-one false u v w i so_far claims seen ended =
       record {
         claims = claims ∙ so_far.claims;
         seen = seen ∙ so_far.seen;
-        marks = λ k. omega (arith, so_far.marks k, ap (times k) ended.0);
+        marks = λ k. omega (arith, so_far.marks k, ap (times_in k) ended.0);
         many = omega (arith, so_far.many, ap length ended.0);
       }
 
@@ -225,7 +225,7 @@ module _ {T : Type 0} where
       }
 
   pub finishes-still : (v w : View T) → Finishes v w → FinishesClaims v → FinishesClaims w
-  finishes-still v w k h by i claimed = omega (arith, k.marks i, h by i (subst (λ cs. 0 < pairs by i cs) k.claims claimed))
+  finishes-still v w k h by i claimed = omega (arith, k.marks i, h by i (subst (λ cs. 0 < pairs_in by i cs) k.claims claimed))
 
   pub goes-nowhere : (from : ℕ) (v : View T) → GoesOver from from v v
   goes-nowhere from v =
@@ -277,7 +277,7 @@ module _ {X T Q : Type 0} {g : Ghosts X T Q} where
       let same = h.unchanged in
       record { table = h.table; hand = h.hand; world = same.world; goal = same.goal; first = same.first; end = same.end; all = same.all }
 
-  -- a finished tile was put under a turn
+  -- a finished tile was put under a lock
   pub puts : (a b c : Seat X T Q g) (i : ℕ) → seat_name b ≡ seat_name a → Unchanged (view a) (view b) → seat_name c ≡ seat_name b
       → view c ≡ with_no_hand (with_mark (view b) i)
       → Worked a c × ((view c).claims ≡ (view a).claims) × ((view c).seen ≡ (view a).seen) × Ended true (view a) i (view c) × ((view c).lost ≡ (view b).lost)

@@ -1,6 +1,3 @@
-pub mod Looks
+pub mod Inner
 pub mod PartsSeat
-pub mod Rest
-pub mod Stays
 pub mod Tries
-pub mod Workers

@@ -1,4 +1,4 @@
--- What the parts of a seat are made of, for clauses of crates above
+-- What the parts of a seat are made of, for clauses of crates above.
 use Rattle.tile_machine.specs.declared.phase.Phase.{Ghosts}
 use Rattle.tile_table.specs.declared.seat.Seat.{Seat}
 use Rattle.tile_table.specs.declared.table.TileTable.{TileTable}

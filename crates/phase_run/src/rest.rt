@@ -3,23 +3,19 @@
 ghost use Rattle.std.specs.Prelude.{◌≡◌, ◌<◌, true, length, map, slice_set, vec_len, IfOk};
 ghost use Rattle.std.proofs.Math.ListN.{get_elem?};
 ghost use Rattle.tile_machine.specs.At.{At};
-ghost use Rattle.phase_run.specs.Rest.{TilesOf};
+ghost use Rattle.phase_run.specs.Inner.Rest.{TilesOf};
 
 use std::alloc::{AllocError, Global};
 use std::snapshot::Snapshot;
-use tile_machine::parts::PartFault;
-use tile_machine::phase::Phase;
-use tile_machine::plain::PlainParts;
-use tile_table::seat::Closed;
+use tile_machine::{PartFault, Phase, PlainParts};
+use tile_table::Closed;
 
-/// Which tiles are done.
 fn flags_of<P: Phase>(alloc: Global, closed: &[Closed<P>]) -> Result<Vec<bool>, AllocError>
     ensures { IfOk result (λ done. done.items ≡ map (λ c. c.done) closed.now) }
 {
     closed.iter().map(|one| one.done).collect(alloc)
 }
 
-/// The tiles alone.
 fn tiles_of<P: Phase>(alloc: Global, closed: Vec<Closed<P>>) -> Result<Vec<P::Tile>, AllocError>
     ensures { IfOk result (λ tiles. tiles.items ≡ map (λ c. c.tile) closed.items) }
 {
@@ -54,7 +50,6 @@ fn finished_tile<P: Phase>(
     }
 }
 
-/// Puts a finished tile in its place, which is done then.
 fn put_finished<T: Drop>(tiles: &mut Vec<T>, done: &mut Vec<bool>, i: usize, tile: T)
     requires tiles { i < vec_len tiles.old }
     requires done { i < vec_len done.old }

@@ -8,13 +8,13 @@ use host_port::Gate;
 use std::alloc::{AllocError, Global};
 use std::snapshot::Snapshot;
 use std::thread::Threads;
-use tile_machine::phase::Phase;
-use tile_table::table::TileTable;
+use tile_machine::Phase;
+use tile_table::TileTable;
 
 /// The finished tiles of a list of tiles, in its order, made by this many workers in threads of their own.
 ///
 /// Each worker goes over all places. It claims what nobody has claimed, tells the gate so, computes the finished tile from copies
-/// of the tile and of the parts that it needs, puts it in its place and tells the gate that too. A turn that is held by another
+/// of the tile and of the parts that it needs, puts it in its place and tells the gate that too. A lock that is held by another
 /// is tried at most 1,000 times in a row, then the tile is put off. When all workers have ended, the calling thread finishes the
 /// tiles that were put off. The answer doesn't depend on the schedule or on the gate, whose calls have to return.
 ///

@@ -6,16 +6,14 @@ ghost use Rattle.tile_machine.specs.At.{At};
 ghost use Rattle.tile_machine.specs.Late.{IfLate};
 ghost use Rattle.tile_table.specs.declared.view.Hand.{Hand};
 ghost use Rattle.tile_table.specs.Seats.{view, IsAt};
-ghost use Rattle.phase_run.specs.Looks.{is_empty, Looked, TookOne, TriedInVain, tries_in_a_row, Shown};
+ghost use Rattle.tile_table.specs.Stays.{is_empty, Looked, TookOne, Shown};
+ghost use Rattle.phase_run.specs.Tries.{TriedInVain, tries_in_a_row};
 ghost use Rattle.phase_run.specs.Tries.{IfLateAt, HadOrLate};
 
 use crate::tries::TRIES;
 use std::alloc::Global;
-use tile_machine::parts::{PartFault, Parts};
-use tile_machine::phase::Phase;
-use tile_table::answer::Unseen;
-use tile_table::seat::Seat;
-use tile_table::table::TileTable;
+use tile_machine::{PartFault, Parts, Phase};
+use tile_table::{Seat, TileTable, Unseen};
 
 /// The readable part of the tile at place `j`, looked at until it is seen, at most 1,000 times in a row. It shows the same of the
 /// world's tile and of the finished one, so it doesn't matter which of them is there.
@@ -46,8 +44,8 @@ fn part_of<P: Phase>(
     Err(PartFault::Late { place: j, holder })
 }
 
-/// The readable parts of the world of a seat, read from the tiles that the workers share. A tile is read under its turn, which
-/// is given back before `part` answers, so the seat holds no turn between two calls.
+/// The readable parts of the world of a seat, read from the tiles that the workers share. A tile is read under its lock, which
+/// is given back before `part` answers, so the seat holds no lock between two calls.
 #[derive(Drop)]
 pub struct SeatParts<'a, P: Phase> {
     phase: &'a P,
@@ -78,7 +76,7 @@ impl<'a, P: Phase> SeatParts<'a, P> {
 
 impl<'a, P: Phase> Parts<P::Part> for SeatParts<'a, P> {
     ghost use Rattle.phase_run.specs.PartsSeat.{parts_phase, parts_seat};
-    ghost use Rattle.phase_run.specs.Stays.{looked-same, looked-on, shown-again, shown-many};
+    ghost use Rattle.tile_table.proofs.Staying.{looked-same, looked-on, shown-again, shown-many};
 
     ghost shows = { λ a ps. Shown (P.readable a.phase.now) (view a.seat.now) ps };
 

@@ -1,4 +1,4 @@
-//! What no clause says: that the calls succeed, that workers run at once, and what a worker meets at a held turn.
+//! What no clause says: that the calls succeed, that workers run at once, and what a worker meets at a held lock.
 
 ghost use Rattle.std.specs.Prelude.{◌≡◌, ◌<◌, ◌≤◌, ◌^◌, length};
 
@@ -10,9 +10,8 @@ use plain_phases::{Failing, Meeting};
 use std::alloc::{AllocError, Global};
 use std::test::Fail;
 use std::thread::Threads;
-use tile_machine::parts::{PartFault, Parts};
-use tile_table::answer::Claim;
-use tile_table::table::TileTable;
+use tile_machine::{PartFault, Parts};
+use tile_table::{Claim, TileTable};
 
 mod gates;
 mod plain_phases;
@@ -72,7 +71,7 @@ fn no_tiles(rt: HostRuntime) -> Result<(), Fail> {
     Ok(())
 }
 
-/// Worker 0 holds the turn of a tile: who reads the tile's part through the seat of worker 1 is told so. After the turn was given
+/// Worker 0 holds the lock of a tile: who reads the tile's part through the seat of worker 1 is told so. After the lock was given
 /// back the part is there.
 #[test]
 fn a_held_tile_is_late(rt: HostRuntime) -> Result<(), Fail> {

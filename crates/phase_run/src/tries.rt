@@ -1,22 +1,23 @@
-//! A turn is tried again and again, but not for long.
+//! A lock is tried again and again, but not for long.
 
 ghost use Rattle.std.specs.Prelude.{◌≡◌, ◌<◌, length, IfOk, IfErr};
 ghost use Rattle.tile_table.specs.declared.view.Hand.{Hand};
-ghost use Rattle.tile_table.specs.Counts.{pairs};
+ghost use Rattle.tile_table.specs.Counts.{pairs_in};
 ghost use Rattle.tile_table.specs.Seats.{view, seat_name, IsAt};
-ghost use Rattle.phase_run.specs.Looks.{TurnGot, TriedInVain, Looked};
+ghost use Rattle.phase_run.specs.Inner.Workers.{TurnGot};
+ghost use Rattle.phase_run.specs.Tries.{TriedInVain};
+ghost use Rattle.tile_table.specs.Stays.{Looked};
 
-use tile_machine::phase::Phase;
-use tile_table::answer::Busy;
-use tile_table::seat::{Seat, Turn};
-use tile_table::table::TileTable;
+use tile_machine::Phase;
+use tile_table::{Busy, Seat, TileTable, Turn};
 
-/// How often a turn is tried in a row. A turn is held for one copy or one put, so a worker that tries this often meets one that
+/// How often a lock is tried in a row. A lock is held for one copy or one put, so a worker that tries this often meets one that
 /// was stopped in between; then other work is better than more tries.
 pub(crate) const TRIES: u64 = 1000;
 
-/// The turn of place `j`, which the seat has claimed, tried at most 1,000 times in a row. `Busy` names the worker that held it at the last try.
-pub(crate) fn turn_of<P: Phase>(
+/// The lock of place `j`, which the seat has claimed, tried at most 1,000 times in a row. `Busy` names the worker that held it at
+/// the last try.
+pub(crate) fn taken_soon<P: Phase>(
     table: &TileTable<P>,
     seat: &mut Seat<P>,
     j: u64,
@@ -24,7 +25,7 @@ pub(crate) fn turn_of<P: Phase>(
     requires table { IsAt table.now seat.old }
     requires hand { (view seat.old).hand ≡ Hand.Empty }
     requires place { j < length (view seat.old).world }
-    requires claimed { 0 < pairs (view seat.old).first j (view seat.old).claims }
+    requires claimed { 0 < pairs_in (view seat.old).first j (view seat.old).claims }
     ensures table { seat_name seat.new ≡ seat_name seat.old }
     ensures turn { IfOk result (λ turn. TurnGot (view seat.old) j turn (view seat.new)) }
     ensures missed { IfErr result (λ busy. Looked seat.old seat.new) }

@@ -4,29 +4,27 @@ ghost use Rattle.std.specs.Prelude.{◌≡◌, ℕ, ◌+◌, ◌<◌, ◌≤◌,
 ghost use Rattle.tile_machine.specs.At.{At};
 ghost use Rattle.tile_machine.specs.Late.{IfLate};
 ghost use Rattle.tile_table.specs.declared.view.Hand.{Hand};
-ghost use Rattle.tile_table.specs.Counts.{times, pairs};
+ghost use Rattle.tile_table.specs.Counts.{times_in, pairs_in};
 ghost use Rattle.tile_table.specs.Seats.{view, IsAt};
 ghost use Rattle.phase_run.specs.declared.worker.Visit.{Visit};
-ghost use Rattle.phase_run.specs.Looks.{IsAlone, Loses, Looked, TookOne, tries_in_a_row};
+ghost use Rattle.tile_table.specs.Stays.{IsAlone, Loses, Looked, TookOne};
+ghost use Rattle.phase_run.specs.Tries.{tries_in_a_row};
 ghost use Rattle.phase_run.specs.Tries.{HadOrLate};
-ghost use Rattle.phase_run.specs.Workers.{Ready, Worked, Ended, Visits, Waiting, Finishes, GoesOver, WentOver, FinishesClaims};
+ghost use Rattle.phase_run.specs.Inner.Workers.{Ready, Worked, Ended, Visits, Waiting, Finishes, GoesOver, WentOver, FinishesClaims};
 
 use crate::seat_parts::SeatParts;
-use crate::tries::turn_of;
+use crate::tries::taken_soon;
 use host_port::{Gate, Moment};
 use std::alloc::{AllocError, Global};
-use tile_machine::parts::PartFault;
-use tile_machine::phase::Phase;
-use tile_table::answer::Claim;
-use tile_table::seat::Seat;
-use tile_table::table::TileTable;
+use tile_machine::{PartFault, Phase};
+use tile_table::{Claim, Seat, TileTable};
 
 /// What a worker did at a place.
 #[derive(Clone, Copy, Debug, PartialEq, Eq)]
 pub(crate) enum Visit {
     /// It claimed the tile, and finished it.
     Finished,
-    /// It claimed the tile, and another worker held a turn that it needed for too long.
+    /// It claimed the tile, and another worker held a lock that it needed for too long.
     PutOff,
     /// Another worker had claimed the tile.
     Passed,
@@ -43,15 +41,15 @@ fn tile_of<P: Phase>(
     requires table { IsAt table.now seat.old }
     requires hand { (view seat.old).hand ≡ Hand.Empty }
     requires place { i < length (view seat.old).world }
-    requires claimed { 0 < pairs (view seat.old).first i (view seat.old).claims }
-    requires unmarked { times i (view seat.old).marks ≡ 0 }
+    requires claimed { 0 < pairs_in (view seat.old).first i (view seat.old).claims }
+    requires unmarked { times_in i (view seat.old).marks ≡ 0 }
     ensures looked { Looked seat.old seat.new }
     ensures tile { IfOk result (λ tile. At (view seat.old).world i tile) }
     ensures late { IfLate result (length (view seat.old).lost < length (view seat.new).lost) }
     ensures takes { HadOrLate result (TookOne i (view seat.old) (view seat.new)) ((view seat.new).takes ≡ (view seat.old).takes) }
     ensures few { length (view seat.new).lost ≤ length (view seat.old).lost + tries_in_a_row }
 {
-    match turn_of(table, seat, i) {
+    match taken_soon(table, seat, i) {
         Ok(turn) => {
             let copy = phase.copy(alloc, turn.tile());
             table.give(seat, turn);
@@ -77,8 +75,8 @@ fn rewritten<P: Phase>(
 ) -> Result<P::Tile, PartFault>
     requires ready { Ready table.now (P.fits phase.now) (P.finished phase.now) seat.old }
     requires place { i < length (view seat.old).world }
-    requires claimed { 0 < pairs (view seat.old).first i (view seat.old).claims }
-    requires unmarked { times i (view seat.old).marks ≡ 0 }
+    requires claimed { 0 < pairs_in (view seat.old).first i (view seat.old).claims }
+    requires unmarked { times_in i (view seat.old).marks ≡ 0 }
     ensures looked { Looked seat.old seat.new }
     ensures tile { IfOk result (λ tile. At (view seat.old).goal i tile) }
     ensures late { IfLate result (length (view seat.old).lost < length (view seat.new).lost) }
@@ -91,13 +89,13 @@ fn rewritten<P: Phase>(
     phase.rewrite(alloc, i, tile, &mut parts)
 }
 
-/// Puts the finished tile in its place. The answer is whether its turn was had.
+/// Puts the finished tile in its place. The answer is whether its lock was had.
 fn is_put<P: Phase>(table: &TileTable<P>, seat: &mut Seat<P>, i: u64, tile: P::Tile) -> bool
     requires table { IsAt table.now seat.old }
     requires hand { (view seat.old).hand ≡ Hand.Empty }
     requires place { i < length (view seat.old).world }
-    requires claimed { 0 < pairs (view seat.old).first i (view seat.old).claims }
-    requires unmarked { times i (view seat.old).marks ≡ 0 }
+    requires claimed { 0 < pairs_in (view seat.old).first i (view seat.old).claims }
+    requires unmarked { times_in i (view seat.old).marks ≡ 0 }
     requires finished { At (view seat.old).goal i tile }
     ensures worked { Worked seat.old seat.new }
     ensures loses { Loses (view seat.old) (view seat.new) }
@@ -106,7 +104,7 @@ fn is_put<P: Phase>(table: &TileTable<P>, seat: &mut Seat<P>, i: u64, tile: P::T
     ensures ended { Ended result (view seat.old) i (view seat.new) }
     ensures few { length (view seat.new).lost ≤ length (view seat.old).lost + tries_in_a_row }
 {
-    match turn_of(table, seat, i) {
+    match taken_soon(table, seat, i) {
         Ok(turn) => {
             let _ = table.finish(seat, turn, tile);
             true
@@ -127,8 +125,8 @@ fn finish_claimed<P: Phase, G: Gate>(
 ) -> Result<bool, AllocError>
     requires ready { Ready table.now (P.fits phase.now) (P.finished phase.now) seat.old }
     requires place { i < length (view seat.old).world }
-    requires claimed { 0 < pairs (view seat.old).first i (view seat.old).claims }
-    requires unmarked { times i (view seat.old).marks ≡ 0 }
+    requires claimed { 0 < pairs_in (view seat.old).first i (view seat.old).claims }
+    requires unmarked { times_in i (view seat.old).marks ≡ 0 }
     ensures worked { Worked seat.old seat.new }
     ensures loses { Loses (view seat.old) (view seat.new) }
     ensures claims { (view seat.new).claims ≡ (view seat.old).claims }

@@ -3,18 +3,16 @@
 ghost use Rattle.std.specs.Prelude.{◌≡◌, ◌+◌, ◌-◌, ◌<◌, ◌≤◌, true};
 ghost use Rattle.std.specs.Thread.{IsSync, IsSend};
 ghost use Rattle.tile_table.specs.Seats.{view};
-ghost use Rattle.phase_run.specs.Looks.{IsAlone};
-ghost use Rattle.phase_run.specs.Workers.{Ready, Worked, WentOver, FinishesClaims};
+ghost use Rattle.tile_table.specs.Stays.{IsAlone};
+ghost use Rattle.phase_run.specs.Inner.Workers.{Ready, Worked, WentOver, FinishesClaims};
 
 use crate::worker::work;
 use host_port::Gate;
 use std::alloc::Global;
 use std::thread::{Threads, join};
-use tile_machine::phase::Phase;
-use tile_table::seat::Seat;
-use tile_table::table::TileTable;
+use tile_machine::Phase;
+use tile_table::{Seat, TileTable};
 
-/// The place in the middle between two.
 fn middle(from: u64, to: u64) -> u64 {
     from.min(to) + (to - from.min(to)) / 2
 }

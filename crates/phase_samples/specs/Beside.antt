@@ -1,4 +1,4 @@
--- a post of a fence, and the heights beside it
+-- A post of a fence, and the heights beside it.
 use Rattle.std.specs.Prelude.{ℕ, zero, suc, ◌+◌, List, get_or}
 use Rattle.phase_samples.specs.declared.fence.Post.{Post}
 

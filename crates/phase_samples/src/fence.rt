@@ -1,13 +1,13 @@
 //! A phase of two neighbours, written to be read: docs/A-PHASE.md goes through it.
 
 ghost use Rattle.std.specs.Prelude.{◌≡◌, ◌<◌, ◌≤◌, ⊤, List, IfOk, refl};
-ghost use Rattle.tile_machine.specs.FromParts.{finished_by, finished-many, finished-parts, finished-agree};
+ghost use Rattle.tile_machine.specs.FinishedBy.{finished_by};
+ghost use Rattle.tile_machine.proofs.FromParts.{finished-many, finished-parts, finished-agree};
 ghost use Rattle.tile_machine.specs.Late.{IfLate};
 ghost use Rattle.phase_samples.specs.Beside.{height_at, height_before, with_beside};
 
 use std::alloc::{AllocError, Global};
-use tile_machine::parts::{PartFault, Parts};
-use tile_machine::phase::Phase;
+use tile_machine::{PartFault, Parts, Phase};
 
 /// A post of a fence: its height, which all may read, and a field that the phase writes.
 #[derive(Clone, Copy, Debug, PartialEq, Eq)]

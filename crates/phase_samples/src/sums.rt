@@ -1,11 +1,11 @@
 //! A phase that reads every tile: the total of each is the sum of all values.
 
 ghost use Rattle.std.specs.Prelude.{◌≡◌, ◌<◌, ◌^◌, length, map, sum, refl, IfOk};
-ghost use Rattle.tile_machine.specs.FromParts.{finished_by, finished-many, finished-parts, finished-agree};
+ghost use Rattle.tile_machine.specs.FinishedBy.{finished_by};
+ghost use Rattle.tile_machine.proofs.FromParts.{finished-many, finished-parts, finished-agree};
 
 use std::alloc::{AllocError, Global};
-use tile_machine::parts::{PartFault, Parts};
-use tile_machine::phase::Phase;
+use tile_machine::{PartFault, Parts, Phase};
 
 /// A value that all may read, and a field that the phase writes.
 #[derive(Clone, Copy, Debug, PartialEq, Eq)]

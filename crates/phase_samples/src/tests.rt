@@ -7,10 +7,7 @@ ghost use Rattle.tile_machine.specs.Late.{IfLate};
 use crate::{Fence, Post, Summand, Sums};
 use std::alloc::Global;
 use std::test::Fail;
-use tile_machine::parts::{PartFault, Parts};
-use tile_machine::phase::Phase;
-use tile_machine::plain::PlainParts;
-use tile_machine::values::values_follow_marks;
+use tile_machine::{PartFault, Parts, Phase, PlainParts, values_follow_marks};
 
 /// The finished tile of a place of a plain list, through the bounds of the traits.
 fn finished_tile<P: Phase>(

@@ -9,10 +9,11 @@ use Rattle.std.proofs.lemmas.List.Sums.{sum_by-cons}
 use Rattle.std.proofs.lemmas.List.FromFn.{length-map-range_with_len}
 use Rattle.tile_machine.specs.declared.state.Cell.{Cell}
 use Rattle.tile_machine.specs.declared.state.Worker.{Worker}
-use Rattle.tile_machine.specs.State.{State, start, untouched, ranging, if_live, worker_of, state_of}
+use Rattle.tile_machine.specs.State.{State, first_state, untouched, ranging, if_live, worker_of}
+use Rattle.tile_machine.specs.Inner.{state_of}
 use Rattle.tile_machine.specs.Good.{IsGood, covers, hand_of}
 use Rattle.tile_machine.proofs.Lists.{bit, count-set, get-set_same, get-set_other}
-use Rattle.tile_machine.proofs.Workers.{ended, lives, hand_in, turn_in}
+use Rattle.tile_machine.proofs.Workers.{ended, lives, hand_in, holder_in}
 
 -- these workers, none of which lives
 abbrev idle : ℕ → ℕ → List Worker
@@ -43,13 +44,13 @@ first_idle (suc n) h = refl
 whole_covers : (x n : ℕ) → bit (leb 0 x && ltb x n) ≡ cond (ltb x n) 1 0
 whole_covers x n = grind (arith, nat_tests)
 
--- an untouched tile's turn names nobody
-none_named : (n k : ℕ) → turn_in (slice_get (replicate n untouched) k) ≡ None
+-- an untouched tile's lock names nobody
+none_named : (n k : ℕ) → holder_in (slice_get (replicate n untouched) k) ≡ None
 none_named zero k = refl
 none_named (suc n) zero = refl
 none_named (suc n) (suc k) = none_named n k
 
-pub good_start : (tiles workers : ℕ) → 1 ≤ workers → IsGood workers (start tiles workers)
+pub good_start : (tiles workers : ℕ) → 1 ≤ workers → IsGood workers (first_state tiles workers)
 good_start tiles workers some =
     record {
       all = length-set (idle 0 workers) 0 whole ∙ length-map-range_with_len (λ k. ranging k k) 0 workers;
@@ -66,8 +67,8 @@ good_start tiles workers some =
         whole_covers x 0,
         none_below x,
       );
-      turns = λ n t. (λ h. absurd (none-some t (sym (no_hand n) ∙ h)), λ h. absurd (none-some n (sym (none_named tiles t) ∙ h)));
-      out_held = All-replicate (λ c. c.home ≡ false → IsSome c.turn) tiles untouched (λ out. absurd (true≢false out));
+      locks = λ n t. (λ h. absurd (none-some t (sym (no_hand n) ∙ h)), λ h. absurd (none-some n (sym (none_named tiles t) ∙ h)));
+      out_held = All-replicate (λ c. c.home ≡ false → IsSome c.lock) tiles untouched (λ out. absurd (true≢false out));
       marked_claimed = All-replicate (λ c. c.marked ≡ true → IsSome c.claim) tiles untouched (λ marked. absurd (true≢false (sym marked)));
     }
   where
@@ -75,7 +76,7 @@ good_start tiles workers some =
     whole = ranging 0 workers
 
     s : State
-    s = start tiles workers
+    s = first_state tiles workers
 
     inside : 0 < workers
     inside = omega arith

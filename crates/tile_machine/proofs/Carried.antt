@@ -11,12 +11,12 @@ use Rattle.tile_machine.specs.declared.event.Event.TheVariants.{Claim, Take, Bri
 use Rattle.tile_machine.specs.declared.state.Cell.{Cell}
 use Rattle.tile_machine.specs.declared.state.Worker.{Worker}
 use Rattle.tile_machine.specs.At.{At}
-use Rattle.tile_machine.specs.State.{State, start, untouched, worker_of, cell_of, with_cell, with_worker, ranging}
-use Rattle.tile_machine.specs.Next.{Answer, next, names, if_next, after, leads}
+use Rattle.tile_machine.specs.State.{State, first_state, untouched, worker_of, cell_of, with_cell, with_worker, ranging}
+use Rattle.tile_machine.specs.Next.{Answer, next_state, names, if_next, after, leads}
 use Rattle.tile_machine.specs.Values.{Values, opening, home_at, tile_by, value_of, is_marked, moved, carried, state_after, values_after, PlacedByMark, ReadAsWorld, AllDone, CarriesValues}
 use Rattle.tile_machine.proofs.Guards.{past_given, past_unless, past_provided}
 use Rattle.tile_machine.proofs.Lists.{get-set_same, get-set_other}
-use Rattle.tile_machine.specs.Bridges.{at-map}
+use Rattle.tile_machine.proofs.Bridges.{at-map}
 
 -- an element that `get` gives stands at its place
 at_get : {A : Type 0} (xs : List A) (j : ℕ) (x : A) → slice_get xs j ≡ Some x → At xs j x
@@ -137,7 +137,7 @@ module _ {T P : Type 0} (readable : T → P) (world finished : List T) (many : l
 
   -- an accepted event keeps what is true of the values
   follow_next : (s : State) (e : Event) (v : Values T) → Follow readable world finished s v
-      → IfOk (next s e) (λ new. Follow readable world finished new (moved world finished s e v))
+      → IfOk (next_state s e) (λ new. Follow readable world finished new (moved world finished s e v))
   follow_next s (Claim worker tile) v f =
       past_given (λ new. Follow readable world finished new v) (worker_of s worker) _ _ (λ me alive.
       past_given (λ new. Follow readable world finished new v) (cell_of s tile) _ _ (λ it at.
@@ -147,19 +147,19 @@ module _ {T P : Type 0} (readable : T → P) (world finished : List T) (many : l
       past_given (λ new. Follow readable world finished new v) (worker_of s worker) _ _ (λ me alive.
       past_given (λ new. Follow readable world finished new v) (cell_of s tile) _ _ (λ it at.
       past_unless (λ new. Follow readable world finished new v) me.hand _ _ (λ empty.
-      past_unless (λ new. Follow readable world finished new v) it.turn _ _ (λ free.
-      follow_worker (with_cell s tile (record it { turn = Some worker })) worker (record me { hand = Some tile }) v
-      (follow_same s tile it (record it { turn = Some worker }) v f at refl)))))
+      past_unless (λ new. Follow readable world finished new v) it.lock _ _ (λ free.
+      follow_worker (with_cell s tile (record it { lock = Some worker })) worker (record me { hand = Some tile }) v
+      (follow_same s tile it (record it { lock = Some worker }) v f at refl)))))
   follow_next s (BringOut worker tile) v f =
       past_given (λ new. Follow readable world finished new (moved world finished s (BringOut worker tile) v)) (worker_of s worker) _ _ (λ me alive.
       past_given (λ new. Follow readable world finished new (moved world finished s (BringOut worker tile) v)) (cell_of s tile) _ _ (λ it at.
-      past_provided (λ new. Follow readable world finished new (moved world finished s (BringOut worker tile) v)) (names it.turn worker) _ _ (λ held.
+      past_provided (λ new. Follow readable world finished new (moved world finished s (BringOut worker tile) v)) (names it.lock worker) _ _ (λ held.
       past_provided (λ new. Follow readable world finished new (moved world finished s (BringOut worker tile) v)) it.home _ _ (λ home.
       follow_out s worker tile it v f at home))))
   follow_next s (Mark worker tile) v f =
       past_given (λ new. Follow readable world finished new v) (worker_of s worker) _ _ (λ me alive.
       past_given (λ new. Follow readable world finished new v) (cell_of s tile) _ _ (λ it at.
-      past_provided (λ new. Follow readable world finished new v) (names it.turn worker) _ _ (λ held.
+      past_provided (λ new. Follow readable world finished new v) (names it.lock worker) _ _ (λ held.
       past_provided (λ new. Follow readable world finished new v) (not it.home) _ _ (λ out.
       past_provided (λ new. Follow readable world finished new v) (names it.claim worker) _ _ (λ mine.
       past_provided (λ new. Follow readable world finished new v) (not it.marked) _ _ (λ unmarked.
@@ -169,16 +169,16 @@ module _ {T P : Type 0} (readable : T → P) (world finished : List T) (many : l
   follow_next s (PutBack worker tile) v f =
       past_given (λ new. Follow readable world finished new (moved world finished s (PutBack worker tile) v)) (worker_of s worker) _ _ (λ me alive.
       past_given (λ new. Follow readable world finished new (moved world finished s (PutBack worker tile) v)) (cell_of s tile) _ _ (λ it at.
-      past_provided (λ new. Follow readable world finished new (moved world finished s (PutBack worker tile) v)) (names it.turn worker) _ _ (λ held.
+      past_provided (λ new. Follow readable world finished new (moved world finished s (PutBack worker tile) v)) (names it.lock worker) _ _ (λ held.
       past_provided (λ new. Follow readable world finished new (moved world finished s (PutBack worker tile) v)) (not it.home) _ _ (λ out.
       follow_back s worker tile it v f at))))
   follow_next s (Free worker tile) v f =
       past_given (λ new. Follow readable world finished new v) (worker_of s worker) _ _ (λ me alive.
       past_given (λ new. Follow readable world finished new v) (cell_of s tile) _ _ (λ it at.
-      past_provided (λ new. Follow readable world finished new v) (names it.turn worker) _ _ (λ held.
+      past_provided (λ new. Follow readable world finished new v) (names it.lock worker) _ _ (λ held.
       past_provided (λ new. Follow readable world finished new v) it.home _ _ (λ home.
-      follow_worker (with_cell s tile (record it { turn = None })) worker (record me { hand = None }) v
-      (follow_same s tile it (record it { turn = None }) v f at refl)))))
+      follow_worker (with_cell s tile (record it { lock = None })) worker (record me { hand = None }) v
+      (follow_same s tile it (record it { lock = None }) v f at refl)))))
   follow_next s (Split worker at) v f =
       past_given (λ new. Follow readable world finished new v) (worker_of s worker) _ _ (λ me alive.
       past_provided (λ new. Follow readable world finished new v) (ltb me.first at && ltb at me.end) _ _ (λ inside.
@@ -203,11 +203,11 @@ module _ {T P : Type 0} (readable : T → P) (world finished : List T) (many : l
       → Follow readable world finished (leads s es) (carried world finished s es v)
   follow_all s [] v f = f
   follow_all s (e ∷ es) v f =
-      follow_all (after s (next s e)) es (cond (is_ok (next s e)) (moved world finished s e v) v)
-      (follow_answer s (next s e) v (moved world finished s e v) f (follow_next s e v f))
+      follow_all (after s (next_state s e)) es (cond (is_ok (next_state s e)) (moved world finished s e v) v)
+      (follow_answer s (next_state s e) v (moved world finished s e v) f (follow_next s e v f))
 
   -- before any event
-  follow_start : (workers : ℕ) → Follow readable world finished (start (length world) workers) (opening world)
+  follow_start : (workers : ℕ) → Follow readable world finished (first_state (length world) workers) (opening world)
   follow_start workers =
       record {
         as_many = length-replicate (length world) untouched;
@@ -230,7 +230,7 @@ module _ {T P : Type 0} (readable : T → P) (world finished : List T) (many : l
 
   pub carries_values : (workers : ℕ) (events : List Event) → CarriesValues readable world finished workers events
   carries_values workers events =
-      let f = follow_all (start (length world) workers) events (opening world) (follow_start workers) in
+      let f = follow_all (first_state (length world) workers) events (opening world) (follow_start workers) in
       record {
         placed = f.placed;
         brought = f.brought;

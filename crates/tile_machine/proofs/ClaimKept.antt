@@ -8,7 +8,7 @@ use Rattle.tile_machine.specs.declared.state.Cell.{Cell}
 use Rattle.tile_machine.specs.declared.event.Event.{Event}
 use Rattle.tile_machine.specs.declared.event.Event.TheVariants.{Claim, Take, BringOut, Mark, PutBack, Free, Split, Join}
 use Rattle.tile_machine.specs.State.{State, cell_of, worker_of, with_cell}
-use Rattle.tile_machine.specs.Next.{next, names, if_next}
+use Rattle.tile_machine.specs.Next.{next_state, names, if_next}
 use Rattle.tile_machine.specs.Good.{claimant_of}
 use Rattle.tile_machine.proofs.Guards.{past_given, past_unless, past_provided}
 use Rattle.tile_machine.proofs.Lists.{get-set_same, get-set_other}
@@ -28,7 +28,7 @@ writes s tile by t it new claimed at kept =
     subst (λ n. claimant_of (with_cell s t new) n ≡ Some by) (sym e) (ap (λ o. option_and_then (λ c. c.claim) o) here ∙ kept was))
     (λ ne. ap (λ o. option_and_then (λ c. c.claim) o) (get-set_other s.cells t tile new ne) ∙ claimed)
 
-pub stays_next : (s : State) (e : Event) (tile by : ℕ) → Still tile by s → IfOk (next s e) (Still tile by)
+pub stays_next : (s : State) (e : Event) (tile by : ℕ) → Still tile by s → IfOk (next_state s e) (Still tile by)
 stays_next s (Claim worker t) tile by h =
     past_given (Still tile by) (worker_of s worker) _ _ (λ me alive.
     past_given (Still tile by) (cell_of s t) _ _ (λ it at.
@@ -37,29 +37,29 @@ stays_next s (Take worker t) tile by h =
     past_given (Still tile by) (worker_of s worker) _ _ (λ me alive.
     past_given (Still tile by) (cell_of s t) _ _ (λ it at.
     past_unless (Still tile by) me.hand _ _ (λ empty.
-    past_unless (Still tile by) it.turn _ _ (λ free. writes s tile by t it (record it { turn = Some worker }) h at (λ was. was)))))
+    past_unless (Still tile by) it.lock _ _ (λ free. writes s tile by t it (record it { lock = Some worker }) h at (λ was. was)))))
 stays_next s (BringOut worker t) tile by h =
     past_given (Still tile by) (worker_of s worker) _ _ (λ me alive.
     past_given (Still tile by) (cell_of s t) _ _ (λ it at.
-    past_provided (Still tile by) (names it.turn worker) _ _ (λ held.
+    past_provided (Still tile by) (names it.lock worker) _ _ (λ held.
     past_provided (Still tile by) it.home _ _ (λ home. writes s tile by t it (record it { home = false }) h at (λ was. was)))))
 stays_next s (Mark worker t) tile by h =
     past_given (Still tile by) (worker_of s worker) _ _ (λ me alive.
     past_given (Still tile by) (cell_of s t) _ _ (λ it at.
-    past_provided (Still tile by) (names it.turn worker) _ _ (λ held.
+    past_provided (Still tile by) (names it.lock worker) _ _ (λ held.
     past_provided (Still tile by) (not it.home) _ _ (λ out.
     past_provided (Still tile by) (names it.claim worker) _ _ (λ mine.
     past_provided (Still tile by) (not it.marked) _ _ (λ clear. writes s tile by t it (record it { marked = true }) h at (λ was. was)))))))
 stays_next s (PutBack worker t) tile by h =
     past_given (Still tile by) (worker_of s worker) _ _ (λ me alive.
     past_given (Still tile by) (cell_of s t) _ _ (λ it at.
-    past_provided (Still tile by) (names it.turn worker) _ _ (λ held.
+    past_provided (Still tile by) (names it.lock worker) _ _ (λ held.
     past_provided (Still tile by) (not it.home) _ _ (λ out. writes s tile by t it (record it { home = true }) h at (λ was. was)))))
 stays_next s (Free worker t) tile by h =
     past_given (Still tile by) (worker_of s worker) _ _ (λ me alive.
     past_given (Still tile by) (cell_of s t) _ _ (λ it at.
-    past_provided (Still tile by) (names it.turn worker) _ _ (λ held.
-    past_provided (Still tile by) it.home _ _ (λ home. writes s tile by t it (record it { turn = None }) h at (λ was. was)))))
+    past_provided (Still tile by) (names it.lock worker) _ _ (λ held.
+    past_provided (Still tile by) it.home _ _ (λ home. writes s tile by t it (record it { lock = None }) h at (λ was. was)))))
 stays_next s (Split worker x) tile by h =
     past_given (Still tile by) (worker_of s worker) _ _ (λ me alive.
     past_provided (Still tile by) (nat_lt me.first x && nat_lt x me.end) _ _ (λ inside. h))

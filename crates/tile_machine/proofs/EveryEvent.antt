@@ -8,12 +8,13 @@ use Rattle.tile_machine.specs.declared.event.Event.{Event}
 use Rattle.tile_machine.specs.declared.refused.Refused.{Refused}
 use Rattle.tile_machine.specs.declared.event.Event.TheVariants.{Claim, Take, BringOut, Mark, PutBack, Free, Split, Join}
 use Rattle.tile_machine.specs.State.{State, cell_of, worker_of}
-use Rattle.tile_machine.specs.Next.{Answer, next, names, if_next, after, Follows}
+use Rattle.tile_machine.specs.Next.{Answer, next_state, names, if_next, after}
+use Rattle.tile_machine.specs.Inner.{Follows}
 use Rattle.tile_machine.specs.Good.{IsGood}
 use Rattle.tile_machine.proofs.Guards.{past_given, past_unless, past_provided}
 use Rattle.tile_machine.proofs.Kept.{range_inside, good_cell, good_take, good_free, good_split, good_join}
 
--- whom a claim or a turn names
+-- whom a claim or a lock names
 pub named : (o : Option ℕ) (n : ℕ) → names o n ≡ true → o ≡ Some n
 named None n h = absurd (cc h)
 named (Some m) n h = ap Some (eqb-true m n h)
@@ -30,17 +31,17 @@ somebody : (o : Option ℕ) (n : ℕ) → names o n ≡ true → IsSome o
 somebody None n h = absurd (cc h)
 somebody (Some m) n h = refl
 
--- in a good state a tile whose value is out has its turn held
-held_out : (w : ℕ) (s : State) (tile : ℕ) (it : Cell) → IsGood w s → cell_of s tile ≡ Some it → it.home ≡ false → IsSome it.turn
+-- in a good state a tile whose value is out has its lock held
+held_out : (w : ℕ) (s : State) (tile : ℕ) (it : Cell) → IsGood w s → cell_of s tile ≡ Some it → it.home ≡ false → IsSome it.lock
 held_out w s tile it good at =
-    subst (λ c. c.home ≡ false → IsSome c.turn) (get_or_from_slice_get s.cells tile it it at) (good.out_held tile it (slice_get_within s.cells tile it at))
+    subst (λ c. c.home ≡ false → IsSome c.lock) (get_or_from_slice_get s.cells tile it it at) (good.out_held tile it (slice_get_within s.cells tile it at))
 
 -- in a good state a marked tile has a claim
 claimed : (w : ℕ) (s : State) (tile : ℕ) (it : Cell) → IsGood w s → cell_of s tile ≡ Some it → it.marked ≡ true → IsSome it.claim
 claimed w s tile it good at =
     subst (λ c. c.marked ≡ true → IsSome c.claim) (get_or_from_slice_get s.cells tile it it at) (good.marked_claimed tile it (slice_get_within s.cells tile it at))
 
-pub good_next : (w : ℕ) (s : State) (e : Event) → IsGood w s → IfOk (next s e) (IsGood w)
+pub good_next : (w : ℕ) (s : State) (e : Event) → IsGood w s → IfOk (next_state s e) (IsGood w)
 good_next w s (Claim worker tile) good =
     past_given (IsGood w) (worker_of s worker) _ _ (λ me alive.
     past_given (IsGood w) (cell_of s tile) _ _ (λ it at.
@@ -50,18 +51,18 @@ good_next w s (Take worker tile) good =
     past_given (IsGood w) (worker_of s worker) _ _ (λ me alive.
     past_given (IsGood w) (cell_of s tile) _ _ (λ it at.
     past_unless (IsGood w) me.hand _ _ (λ empty.
-    past_unless (IsGood w) it.turn _ _ (λ free.
+    past_unless (IsGood w) it.lock _ _ (λ free.
     good_take w s worker tile me it good alive at empty free))))
 good_next w s (BringOut worker tile) good =
     past_given (IsGood w) (worker_of s worker) _ _ (λ me alive.
     past_given (IsGood w) (cell_of s tile) _ _ (λ it at.
-    past_provided (IsGood w) (names it.turn worker) _ _ (λ held.
+    past_provided (IsGood w) (names it.lock worker) _ _ (λ held.
     past_provided (IsGood w) it.home _ _ (λ home.
-    good_cell w s tile it (record it { home = false }) good at refl (λ _. somebody it.turn worker held) (claimed w s tile it good at)))))
+    good_cell w s tile it (record it { home = false }) good at refl (λ _. somebody it.lock worker held) (claimed w s tile it good at)))))
 good_next w s (Mark worker tile) good =
     past_given (IsGood w) (worker_of s worker) _ _ (λ me alive.
     past_given (IsGood w) (cell_of s tile) _ _ (λ it at.
-    past_provided (IsGood w) (names it.turn worker) _ _ (λ held.
+    past_provided (IsGood w) (names it.lock worker) _ _ (λ held.
     past_provided (IsGood w) (not it.home) _ _ (λ out.
     past_provided (IsGood w) (names it.claim worker) _ _ (λ mine.
     past_provided (IsGood w) (not it.marked) _ _ (λ unmarked.
@@ -69,15 +70,15 @@ good_next w s (Mark worker tile) good =
 good_next w s (PutBack worker tile) good =
     past_given (IsGood w) (worker_of s worker) _ _ (λ me alive.
     past_given (IsGood w) (cell_of s tile) _ _ (λ it at.
-    past_provided (IsGood w) (names it.turn worker) _ _ (λ held.
+    past_provided (IsGood w) (names it.lock worker) _ _ (λ held.
     past_provided (IsGood w) (not it.home) _ _ (λ out.
     good_cell w s tile it (record it { home = true }) good at refl (λ away. absurd (true≢false away)) (claimed w s tile it good at)))))
 good_next w s (Free worker tile) good =
     past_given (IsGood w) (worker_of s worker) _ _ (λ me alive.
     past_given (IsGood w) (cell_of s tile) _ _ (λ it at.
-    past_provided (IsGood w) (names it.turn worker) _ _ (λ held.
+    past_provided (IsGood w) (names it.lock worker) _ _ (λ held.
     past_provided (IsGood w) it.home _ _ (λ home.
-    good_free w s worker tile me it good alive at (named it.turn worker held) home))))
+    good_free w s worker tile me it good alive at (named it.lock worker held) home))))
 good_next w s (Split worker at) good =
     past_given (IsGood w) (worker_of s worker) _ _ (λ me alive.
     past_provided (IsGood w) (ltb me.first at && ltb at me.end) _ _ (λ inside.

@@ -7,9 +7,9 @@ use Rattle.std.proofs.lemmas.List.Elements.{All-set}
 use Rattle.tile_machine.specs.declared.state.Cell.{Cell}
 use Rattle.tile_machine.specs.declared.state.Worker.{Worker}
 use Rattle.tile_machine.specs.State.{State, if_live, worker_of, cell_of, with_cell, with_worker, ranging}
-use Rattle.tile_machine.specs.Good.{hand_of, turn_of, covers, IsGood}
+use Rattle.tile_machine.specs.Good.{hand_of, holder_of, covers, IsGood}
 use Rattle.tile_machine.proofs.Lists.{bit, count-set, one_counted, get-set_other}
-use Rattle.tile_machine.proofs.Workers.{live_worker, worker_inside, worker_of-same, worker_of-other, lives, ended, hand_in, turn_in, hand_of-same, hand_of-other, hand_of-ended, turn_of-same, turn_of-other}
+use Rattle.tile_machine.proofs.Workers.{live_worker, worker_inside, worker_of-same, worker_of-other, lives, ended, hand_in, holder_in, hand_of-same, hand_of-other, hand_of-ended, holder_of-same, holder_of-other}
 
 covers_inside : (x : ℕ) (w : Worker) → w.first ≤ x → x < w.end → covers x w ≡ true
 covers_inside x w h k = grind (arith, nat_tests)
@@ -38,25 +38,25 @@ range_inside w s n x me good alive low high =
     one_counted (covers x) s.workers n me (live_worker (slice_get s.workers n) me alive).0 (covers_inside x me low high) in
     ⊎_elim (λ h. h) (λ h. absurd (omega (arith, one, good.ranges x, cond-false {A = ℕ} (ltb x w) 1 0 (le-ltb x w h)))) (cases_lt x w)
 
--- a tile is written, and its turn stays
-pub good_cell : (w : ℕ) (s : State) (tile : ℕ) (it new : Cell) → IsGood w s → cell_of s tile ≡ Some it → new.turn ≡ it.turn
-    → (new.home ≡ false → IsSome new.turn) → (new.marked ≡ true → IsSome new.claim) → IsGood w (with_cell s tile new)
+-- a tile is written, and its lock stays
+pub good_cell : (w : ℕ) (s : State) (tile : ℕ) (it new : Cell) → IsGood w s → cell_of s tile ≡ Some it → new.lock ≡ it.lock
+    → (new.home ≡ false → IsSome new.lock) → (new.marked ≡ true → IsSome new.claim) → IsGood w (with_cell s tile new)
 good_cell w s tile it new good at same out marked =
     record {
       all = good.all;
       numbers = good.numbers;
       ranges = good.ranges;
-      turns = λ n t. subst (λ o. (hand_of s n ≡ Some t) ↔ (o ≡ Some n)) (sym (kept t)) (good.turns n t);
-      out_held = All-set (λ c. c.home ≡ false → IsSome c.turn) s.cells tile new out good.out_held;
+      locks = λ n t. subst (λ o. (hand_of s n ≡ Some t) ↔ (o ≡ Some n)) (sym (kept t)) (good.locks n t);
+      out_held = All-set (λ c. c.home ≡ false → IsSome c.lock) s.cells tile new out good.out_held;
       marked_claimed = All-set (λ c. c.marked ≡ true → IsSome c.claim) s.cells tile new marked good.marked_claimed;
     }
   where
-    kept : (t : ℕ) → turn_of (with_cell s tile new) t ≡ turn_of s t
+    kept : (t : ℕ) → holder_of (with_cell s tile new) t ≡ holder_of s t
     kept t =
         ⊎_elim
-        (λ e. subst (λ m. turn_of (with_cell s tile new) m ≡ turn_of s m) (sym e)
-        (turn_of-same s tile new (slice_get_within s.cells tile it at) ∙ same ∙ sym (ap turn_in at)))
-        (turn_of-other s tile t new)
+        (λ e. subst (λ m. holder_of (with_cell s tile new) m ≡ holder_of s m) (sym e)
+        (holder_of-same s tile new (slice_get_within s.cells tile it at) ∙ same ∙ sym (ap holder_in at)))
+        (holder_of-other s tile t new)
         (cases_eq t tile)
 
 -- a worker is written under its own number
@@ -70,76 +70,76 @@ numbers-set s k new inside own before n v h =
     (λ ne. before n v (sym (worker_of-other s k n new ne) ∙ h))
     (cases_eq n k)
 
--- who holds what, after a free tile's turn went to a worker with an empty hand
-taken_turns : (hand turn hand' turn' : ℕ → Option ℕ) (worker tile : ℕ)
-    → ((n t : ℕ) → (hand n ≡ Some t) ↔ (turn t ≡ Some n))
-    → hand worker ≡ None → turn tile ≡ None → hand' worker ≡ Some tile → turn' tile ≡ Some worker
-    → ((n : ℕ) → n ≢ worker → hand' n ≡ hand n) → ((t : ℕ) → t ≢ tile → turn' t ≡ turn t)
-    → (n t : ℕ) → (hand' n ≡ Some t) ↔ (turn' t ≡ Some n)
-taken_turns hand turn hand' turn' worker tile before empty free held named other elsewhere n t =
+-- who holds what, after a free tile's lock went to a worker with an empty hand
+taken_locks : (hand lock hand' lock' : ℕ → Option ℕ) (worker tile : ℕ)
+    → ((n t : ℕ) → (hand n ≡ Some t) ↔ (lock t ≡ Some n))
+    → hand worker ≡ None → lock tile ≡ None → hand' worker ≡ Some tile → lock' tile ≡ Some worker
+    → ((n : ℕ) → n ≢ worker → hand' n ≡ hand n) → ((t : ℕ) → t ≢ tile → lock' t ≡ lock t)
+    → (n t : ℕ) → (hand' n ≡ Some t) ↔ (lock' t ≡ Some n)
+taken_locks hand lock hand' lock' worker tile before empty free held named other elsewhere n t =
     ⊎_elim
     (λ e. ⊎_elim (λ f. grind (arith, e, f)) (λ nf. grind (arith, e, nf, before worker t, elsewhere t nf)) (cases_eq t tile))
     (λ ne. ⊎_elim (λ f. grind (arith, ne, f, before n tile, other n ne)) (λ nf. grind (arith, before n t, other n ne, elsewhere t nf)) (cases_eq t tile))
     (cases_eq n worker)
 
--- who holds what, after a worker gave its turn up
-freed_turns : (hand turn hand' turn' : ℕ → Option ℕ) (worker tile : ℕ)
-    → ((n t : ℕ) → (hand n ≡ Some t) ↔ (turn t ≡ Some n))
-    → turn tile ≡ Some worker → hand' worker ≡ None → turn' tile ≡ None
-    → ((n : ℕ) → n ≢ worker → hand' n ≡ hand n) → ((t : ℕ) → t ≢ tile → turn' t ≡ turn t)
-    → (n t : ℕ) → (hand' n ≡ Some t) ↔ (turn' t ≡ Some n)
-freed_turns hand turn hand' turn' worker tile before named empty free other elsewhere n t =
+-- who holds what, after a worker gave its lock up
+freed_locks : (hand lock hand' lock' : ℕ → Option ℕ) (worker tile : ℕ)
+    → ((n t : ℕ) → (hand n ≡ Some t) ↔ (lock t ≡ Some n))
+    → lock tile ≡ Some worker → hand' worker ≡ None → lock' tile ≡ None
+    → ((n : ℕ) → n ≢ worker → hand' n ≡ hand n) → ((t : ℕ) → t ≢ tile → lock' t ≡ lock t)
+    → (n t : ℕ) → (hand' n ≡ Some t) ↔ (lock' t ≡ Some n)
+freed_locks hand lock hand' lock' worker tile before named empty free other elsewhere n t =
     ⊎_elim
     (λ e. ⊎_elim (λ f. grind (arith, e, f)) (λ nf. grind (arith, e, nf, before worker t, before worker tile, elsewhere t nf)) (cases_eq t tile))
     (λ ne. ⊎_elim (λ f. grind (arith, ne, f, before n tile, other n ne)) (λ nf. grind (arith, before n t, other n ne, elsewhere t nf)) (cases_eq t tile))
     (cases_eq n worker)
 
--- a tile's turn and the hand of the worker of this number are written
-good_hold : (w : ℕ) (s : State) (worker tile : ℕ) (me : Worker) (it : Cell) (hand turn : Option ℕ)
-    → IsGood w s → worker_of s worker ≡ Some me → cell_of s tile ≡ Some it → (it.home ≡ false → IsSome turn)
-    → ((n t : ℕ) → (hand_of (with_worker s worker (record me { hand = hand })) n ≡ Some t) ↔ (turn_of (with_cell s tile (record it { turn = turn })) t ≡ Some n))
-    → IsGood w (with_worker (with_cell s tile (record it { turn = turn })) worker (record me { hand = hand }))
-good_hold w s worker tile me it hand turn good alive at out turns =
+-- a tile's lock and the hand of the worker of this number are written
+good_hold : (w : ℕ) (s : State) (worker tile : ℕ) (me : Worker) (it : Cell) (hand lock : Option ℕ)
+    → IsGood w s → worker_of s worker ≡ Some me → cell_of s tile ≡ Some it → (it.home ≡ false → IsSome lock)
+    → ((n t : ℕ) → (hand_of (with_worker s worker (record me { hand = hand })) n ≡ Some t) ↔ (holder_of (with_cell s tile (record it { lock = lock })) t ≡ Some n))
+    → IsGood w (with_worker (with_cell s tile (record it { lock = lock })) worker (record me { hand = hand }))
+good_hold w s worker tile me it hand lock good alive at out locks =
     record {
       all = length-set s.workers worker (record me { hand = hand }) ∙ good.all;
       numbers = numbers-set s worker (record me { hand = hand }) (worker_inside s worker me alive) (good.numbers worker me alive) good.numbers;
       ranges = λ x. omega (arith, good.ranges x, count-set (covers x) s.workers worker me (record me { hand = hand }) (live_worker (slice_get s.workers worker) me alive).0);
-      turns = turns;
-      out_held = All-set (λ c. c.home ≡ false → IsSome c.turn) s.cells tile (record it { turn = turn }) out good.out_held;
-      marked_claimed = All-set (λ c. c.marked ≡ true → IsSome c.claim) s.cells tile (record it { turn = turn }) claimed good.marked_claimed;
+      locks = locks;
+      out_held = All-set (λ c. c.home ≡ false → IsSome c.lock) s.cells tile (record it { lock = lock }) out good.out_held;
+      marked_claimed = All-set (λ c. c.marked ≡ true → IsSome c.claim) s.cells tile (record it { lock = lock }) claimed good.marked_claimed;
     }
   where
     claimed : it.marked ≡ true → IsSome it.claim
     claimed = subst (λ c. c.marked ≡ true → IsSome c.claim) (get_or_from_slice_get s.cells tile it it at) (good.marked_claimed tile it (slice_get_within s.cells tile it at))
 
--- a worker with an empty hand takes a free turn
+-- a worker with an empty hand takes a free lock
 pub good_take : (w : ℕ) (s : State) (worker tile : ℕ) (me : Worker) (it : Cell)
-    → IsGood w s → worker_of s worker ≡ Some me → cell_of s tile ≡ Some it → me.hand ≡ None → it.turn ≡ None
-    → IsGood w (with_worker (with_cell s tile (record it { turn = Some worker })) worker (record me { hand = Some tile }))
+    → IsGood w s → worker_of s worker ≡ Some me → cell_of s tile ≡ Some it → me.hand ≡ None → it.lock ≡ None
+    → IsGood w (with_worker (with_cell s tile (record it { lock = Some worker })) worker (record me { hand = Some tile }))
 good_take w s worker tile me it good alive at empty free =
     good_hold w s worker tile me it (Some tile) (Some worker) good alive at (λ _. refl)
-    (taken_turns (hand_of s) (turn_of s) (hand_of (with_worker s worker (record me { hand = Some tile }))) (turn_of (with_cell s tile (record it { turn = Some worker }))) worker tile
-    good.turns
+    (taken_locks (hand_of s) (holder_of s) (hand_of (with_worker s worker (record me { hand = Some tile }))) (holder_of (with_cell s tile (record it { lock = Some worker }))) worker tile
+    good.locks
     (ap hand_in alive ∙ empty)
-    (ap turn_in at ∙ free)
+    (ap holder_in at ∙ free)
     (hand_of-same s worker (record me { hand = Some tile }) (worker_inside s worker me alive) (live_worker (slice_get s.workers worker) me alive).1)
-    (turn_of-same s tile (record it { turn = Some worker }) (slice_get_within s.cells tile it at))
+    (holder_of-same s tile (record it { lock = Some worker }) (slice_get_within s.cells tile it at))
     (λ n ne. hand_of-other s worker n (record me { hand = Some tile }) ne)
-    (λ t ne. turn_of-other s tile t (record it { turn = Some worker }) ne))
+    (λ t ne. holder_of-other s tile t (record it { lock = Some worker }) ne))
 
--- a worker gives up the turn of a tile whose value is at home
+-- a worker gives up the lock of a tile whose value is at home
 pub good_free : (w : ℕ) (s : State) (worker tile : ℕ) (me : Worker) (it : Cell)
-    → IsGood w s → worker_of s worker ≡ Some me → cell_of s tile ≡ Some it → it.turn ≡ Some worker → it.home ≡ true
-    → IsGood w (with_worker (with_cell s tile (record it { turn = None })) worker (record me { hand = None }))
+    → IsGood w s → worker_of s worker ≡ Some me → cell_of s tile ≡ Some it → it.lock ≡ Some worker → it.home ≡ true
+    → IsGood w (with_worker (with_cell s tile (record it { lock = None })) worker (record me { hand = None }))
 good_free w s worker tile me it good alive at held home =
     good_hold w s worker tile me it None None good alive at (λ out. absurd (true≢false (sym home ∙ out)))
-    (freed_turns (hand_of s) (turn_of s) (hand_of (with_worker s worker (record me { hand = None }))) (turn_of (with_cell s tile (record it { turn = None }))) worker tile
-    good.turns
-    (ap turn_in at ∙ held)
+    (freed_locks (hand_of s) (holder_of s) (hand_of (with_worker s worker (record me { hand = None }))) (holder_of (with_cell s tile (record it { lock = None }))) worker tile
+    good.locks
+    (ap holder_in at ∙ held)
     (hand_of-same s worker (record me { hand = None }) (worker_inside s worker me alive) (live_worker (slice_get s.workers worker) me alive).1)
-    (turn_of-same s tile (record it { turn = None }) (slice_get_within s.cells tile it at))
+    (holder_of-same s tile (record it { lock = None }) (slice_get_within s.cells tile it at))
     (λ n ne. hand_of-other s worker n (record me { hand = None }) ne)
-    (λ t ne. turn_of-other s tile t (record it { turn = None }) ne))
+    (λ t ne. holder_of-other s tile t (record it { lock = None }) ne))
 
 -- a number strictly inside a live worker's range is no live worker's
 inside_ended : (w : ℕ) (s : State) (worker at : ℕ) (me old : Worker) → IsGood w s → worker_of s worker ≡ Some me
@@ -179,7 +179,7 @@ good_split w s worker at me good alive low high =
         covers-parts x me.first at me.end (omega arith) (omega arith),
         covers-empty x old.0.first old.0.end unused,
       );
-      turns = λ n t. subst (λ o. (o ≡ Some t) ↔ (turn_of s t ≡ Some n)) (sym (same_hand n)) (good.turns n t);
+      locks = λ n t. subst (λ o. (o ≡ Some t) ↔ (holder_of s t ≡ Some n)) (sym (same_hand n)) (good.locks n t);
       out_held = good.out_held;
       marked_claimed = good.marked_claimed;
     }
@@ -240,7 +240,7 @@ good_join w s worker other me its good alive alive_too next_one empty =
         ap (λ e. bit (leb me.first x && ltb x e)) next_one,
         covers-empty x its.first its.first (omega arith),
       );
-      turns = λ n t. subst (λ o. (o ≡ Some t) ↔ (turn_of s t ≡ Some n)) (sym (same_hand n)) (good.turns n t);
+      locks = λ n t. subst (λ o. (o ≡ Some t) ↔ (holder_of s t ≡ Some n)) (sym (same_hand n)) (good.locks n t);
       out_held = good.out_held;
       marked_claimed = good.marked_claimed;
     }

@@ -1,3 +1,5 @@
+pub mod Bridges
+pub mod FromParts
 pub mod Lists
 pub mod Guards
 pub mod Workers

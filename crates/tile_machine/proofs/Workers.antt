@@ -5,7 +5,7 @@ use Rattle.std.proofs.lemmas.Option.{slice_get_within, none-some, cond_some}
 use Rattle.tile_machine.specs.declared.state.Cell.{Cell}
 use Rattle.tile_machine.specs.declared.state.Worker.{Worker}
 use Rattle.tile_machine.specs.State.{State, if_live, worker_of, with_cell, with_worker}
-use Rattle.tile_machine.specs.Good.{hand_of, turn_of}
+use Rattle.tile_machine.specs.Good.{hand_of, holder_of}
 use Rattle.tile_machine.proofs.Lists.{get-set_same, get-set_other}
 
 -- a live worker stands in the list, and its range isn't empty
@@ -38,8 +38,8 @@ abbrev pub hand_in : Option Worker → Option ℕ
 hand_in o = option_and_then (λ w. w.hand) o
 
 -- whom a tile or none names
-abbrev pub turn_in : Option Cell → Option ℕ
-turn_in o = option_and_then (λ c. c.turn) o
+abbrev pub holder_in : Option Cell → Option ℕ
+holder_in o = option_and_then (λ c. c.lock) o
 
 pub hand_of-same : (s : State) (n : ℕ) (w : Worker) → n < length s.workers → w.first < w.end → hand_of (with_worker s n w) n ≡ w.hand
 hand_of-same s n w inside range = ap hand_in (worker_of-same s n w inside ∙ lives w range)
@@ -50,8 +50,8 @@ hand_of-ended s n w inside range = ap hand_in (worker_of-same s n w inside ∙ e
 pub hand_of-other : (s : State) (n m : ℕ) (w : Worker) → m ≢ n → hand_of (with_worker s n w) m ≡ hand_of s m
 hand_of-other s n m w h = ap hand_in (worker_of-other s n m w h)
 
-pub turn_of-same : (s : State) (tile : ℕ) (c : Cell) → tile < length s.cells → turn_of (with_cell s tile c) tile ≡ c.turn
-turn_of-same s tile c h = ap turn_in (get-set_same s.cells tile c h)
+pub holder_of-same : (s : State) (tile : ℕ) (c : Cell) → tile < length s.cells → holder_of (with_cell s tile c) tile ≡ c.lock
+holder_of-same s tile c h = ap holder_in (get-set_same s.cells tile c h)
 
-pub turn_of-other : (s : State) (tile m : ℕ) (c : Cell) → m ≢ tile → turn_of (with_cell s tile c) m ≡ turn_of s m
-turn_of-other s tile m c h = ap turn_in (get-set_other s.cells tile m c h)
+pub holder_of-other : (s : State) (tile m : ℕ) (c : Cell) → m ≢ tile → holder_of (with_cell s tile c) m ≡ holder_of s m
+holder_of-other s tile m c h = ap holder_in (get-set_other s.cells tile m c h)

@@ -1,16 +1,17 @@
+-- What is true in every state of a machine that any list of events reaches.
 use Rattle.std.specs.Prelude.{◌≡◌, ℕ, List, Option, Some, IsSome, option_and_then, Bool, true, false, ◌&&◌, length, count_by, All, ◌↔◌, nat_lt, nat_le, if◌then◌else◌}
 use Rattle.tile_machine.specs.declared.state.Worker.{Worker}
 use Rattle.tile_machine.specs.declared.event.Event.{Event}
 use Rattle.tile_machine.specs.State.{State, worker_of, cell_of}
 use Rattle.tile_machine.specs.Next.{leads}
 
--- the tile whose turn the live worker of this number holds
+-- the tile whose lock the live worker of this number holds
 abbrev pub hand_of : State → ℕ → Option ℕ
 hand_of s n = option_and_then (λ w. w.hand) (worker_of s n)
 
--- the worker that the turn of this tile names
-abbrev pub turn_of : State → ℕ → Option ℕ
-turn_of s tile = option_and_then (λ c. c.turn) (cell_of s tile)
+-- the worker that the lock of this tile names
+abbrev pub holder_of : State → ℕ → Option ℕ
+holder_of s tile = option_and_then (λ c. c.lock) (cell_of s tile)
 
 -- the number is in the worker's range
 abbrev pub covers : ℕ → Worker → Bool
@@ -23,10 +24,10 @@ pub record IsGood (workers : ℕ) (s : State) : Type 0 where
   pub numbers : (n : ℕ) (w : Worker) → worker_of s n ≡ Some w → w.first ≡ n
   -- each number below that of all workers is in the range of exactly one, and no other number in any: so ranges don't overlap, and together they are all
   pub ranges : (x : ℕ) → count_by (covers x) s.workers ≡ (if nat_lt x workers then 1 else 0)
-  -- a live worker holds a tile exactly where the tile's turn names the worker
-  pub turns : (n tile : ℕ) → (hand_of s n ≡ Some tile) ↔ (turn_of s tile ≡ Some n)
-  -- a value is out only where its turn is held
-  pub out_held : All (λ c. c.home ≡ false → IsSome c.turn) s.cells
+  -- a live worker holds a tile exactly where the tile's lock names the worker
+  pub locks : (n tile : ℕ) → (hand_of s n ≡ Some tile) ↔ (holder_of s tile ≡ Some n)
+  -- a value is out only where its lock is held
+  pub out_held : All (λ c. c.home ≡ false → IsSome c.lock) s.cells
   -- a marked tile has a claim
   pub marked_claimed : All (λ c. c.marked ≡ true → IsSome c.claim) s.cells
 

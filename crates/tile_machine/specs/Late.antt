@@ -1,3 +1,4 @@
+-- Facts about an answer that may be late.
 use Rattle.std.specs.Prelude.{Result, Ok, Err}
 use Rattle.tile_machine.specs.declared.parts.PartFault.{PartFault}
 use Rattle.tile_machine.specs.declared.parts.PartFault.TheVariants.{Late, OutOfMemory}

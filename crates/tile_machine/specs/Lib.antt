@@ -1,7 +1,7 @@
 pub mod At
-pub mod Bridges
-pub mod FromParts
+pub mod FinishedBy
 pub mod Good
+pub mod Inner
 pub mod Late
 pub mod Next
 pub mod State

@@ -1,3 +1,4 @@
+-- The table of events: what each does to a state, or the first cause for which it is refused.
 use Rattle.std.specs.Prelude.{◌≡◌, ℕ, ◌+◌, Option, Some, None, Bool, true, false, not, ◌&&◌, Result, Ok, Err, is_ok, List, [], ◌∷◌, ◌==◌, nat_lt, if◌then◌else◌}
 use Rattle.tile_machine.specs.declared.event.Event.{Event}
 use Rattle.tile_machine.specs.declared.event.Event.TheVariants.{Claim, Take, BringOut, Mark, PutBack, Free, Split, Join}
@@ -25,7 +26,7 @@ abbrev pub provided : Bool → Refused → Answer → Answer
 provided true refusal rest = rest
 provided false refusal rest = Err refusal
 
--- the claim or the turn names this worker
+-- the claim or the lock names this worker
 abbrev pub names : Option ℕ → ℕ → Bool
 names None n = false
 names (Some m) n = m == n
@@ -36,57 +37,57 @@ if_next me None = None
 if_next me (Some its) = if its.first == me.end then Some its else None
 
 -- the table of events: its causes of refusal in their order, and then the effect
-abbrev pub next : State → Event → Answer
+abbrev pub next_state : State → Event → Answer
 -- the claim names the worker
-next s (Claim worker tile) =
+next_state s (Claim worker tile) =
     given (worker_of s worker) NoWorker (λ me.
     given (cell_of s tile) NoTile (λ it.
     unless it.claim Claimed (
     Ok (with_cell s tile (record it { claim = Some worker })))))
--- the turn names the worker, and the worker holds it
-next s (Take worker tile) =
+-- the lock names the worker, and the worker holds it
+next_state s (Take worker tile) =
     given (worker_of s worker) NoWorker (λ me.
     given (cell_of s tile) NoTile (λ it.
     unless me.hand HandsFull (
-    unless it.turn Held (
-    Ok (with_worker (with_cell s tile (record it { turn = Some worker })) worker (record me { hand = Some tile }))))))
+    unless it.lock Held (
+    Ok (with_worker (with_cell s tile (record it { lock = Some worker })) worker (record me { hand = Some tile }))))))
 -- the value is out
-next s (BringOut worker tile) =
+next_state s (BringOut worker tile) =
     given (worker_of s worker) NoWorker (λ me.
     given (cell_of s tile) NoTile (λ it.
-    provided (names it.turn worker) NotHolder (
+    provided (names it.lock worker) NotHolder (
     provided it.home IsOut (
     Ok (with_cell s tile (record it { home = false }))))))
 -- the tile is marked
-next s (Mark worker tile) =
+next_state s (Mark worker tile) =
     given (worker_of s worker) NoWorker (λ me.
     given (cell_of s tile) NoTile (λ it.
-    provided (names it.turn worker) NotHolder (
+    provided (names it.lock worker) NotHolder (
     provided (not it.home) IsHome (
     provided (names it.claim worker) NotClaimant (
     provided (not it.marked) Marked (
     Ok (with_cell s tile (record it { marked = true }))))))))
 -- the value is at home
-next s (PutBack worker tile) =
+next_state s (PutBack worker tile) =
     given (worker_of s worker) NoWorker (λ me.
     given (cell_of s tile) NoTile (λ it.
-    provided (names it.turn worker) NotHolder (
+    provided (names it.lock worker) NotHolder (
     provided (not it.home) IsHome (
     Ok (with_cell s tile (record it { home = true }))))))
--- the turn is free, and the worker holds none
-next s (Free worker tile) =
+-- the lock is free, and the worker holds none
+next_state s (Free worker tile) =
     given (worker_of s worker) NoWorker (λ me.
     given (cell_of s tile) NoTile (λ it.
-    provided (names it.turn worker) NotHolder (
+    provided (names it.lock worker) NotHolder (
     provided it.home IsOut (
-    Ok (with_worker (with_cell s tile (record it { turn = None })) worker (record me { hand = None }))))))
+    Ok (with_worker (with_cell s tile (record it { lock = None })) worker (record me { hand = None }))))))
 -- the worker keeps the lower part of its range. The upper part is a new worker
-next s (Split worker at) =
+next_state s (Split worker at) =
     given (worker_of s worker) NoWorker (λ me.
     provided (nat_lt me.first at && nat_lt at me.end) BadRange (
     Ok (with_worker (with_worker s worker (record me { end = at })) at (ranging at me.end))))
 -- the worker's range grows by the other's, and the other ends
-next s (Join worker other) =
+next_state s (Join worker other) =
     given (worker_of s worker) NoWorker (λ me.
     given (if_next me (worker_of s other)) BadRange (λ its.
     unless its.hand StillHolds (
@@ -100,14 +101,9 @@ after s (Err refusal) = s
 -- the state after these events, one after another
 abbrev pub leads : State → List Event → State
 leads s [] = s
-leads s (e ∷ es) = leads (after s (next s e)) es
+leads s (e ∷ es) = leads (after s (next_state s e)) es
 
 -- how many of these events are accepted
 abbrev pub accepted : State → List Event → ℕ
 accepted s [] = 0
-accepted s (e ∷ es) = (if is_ok (next s e) then 1 else 0) + accepted (after s (next s e)) es
-
--- the answer to the event and the new state are those of the table: a refusal leaves the old state
-abbrev pub Follows : {A : Type 0} → State → Event → Result A Refused → State → Type 0
-Follows old event (Ok _) new = next old event ≡ Ok new
-Follows old event (Err cause) new = (next old event ≡ Err cause) × (new ≡ old)
+accepted s (e ∷ es) = (if is_ok (next_state s e) then 1 else 0) + accepted (after s (next_state s e)) es

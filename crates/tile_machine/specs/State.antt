@@ -1,3 +1,4 @@
+-- What the machine knows of the tiles and of the workers.
 use Rattle.std.specs.Prelude.{ℕ, Option, Some, None, true, false, List, map, replicate, slice_get, slice_set, nat_lt, if◌then◌else◌}
 use Rattle.std.specs.List.{range_with_len}
 use Rattle.tile_machine.specs.declared.state.Cell.{Cell}
@@ -8,17 +9,17 @@ pub record State : Type 0 where
   pub cells : List Cell
   pub workers : List Worker
 
--- a tile before any event: no claim, no turn, no mark, its value at home
+-- a tile before any event: no claim, no lock, no mark, its value at home
 abbrev pub untouched : Cell
-untouched = record { claim = None; turn = None; marked = false; home = true }
+untouched = record { claim = None; lock = None; marked = false; home = true }
 
--- a worker with the numbers from first up to end, and with no turn
+-- a worker with the numbers from first up to end, and with no lock
 abbrev pub ranging : ℕ → ℕ → Worker
 ranging first end = record { first = first; end = end; hand = None }
 
 -- before any event: each tile untouched, and worker 0 alone lives, with all the numbers
-abbrev pub start : ℕ → ℕ → State
-start tiles workers =
+abbrev pub first_state : ℕ → ℕ → State
+first_state tiles workers =
     record {
       cells = replicate tiles untouched;
       workers = slice_set (map (λ n. ranging n n) (range_with_len 0 workers)) 0 (ranging 0 workers);
@@ -43,7 +44,3 @@ with_cell s tile c = record { cells = slice_set s.cells tile c; workers = s.work
 -- the state with another record of this worker
 abbrev pub with_worker : State → ℕ → Worker → State
 with_worker s n w = record { cells = s.cells; workers = slice_set s.workers n w }
-
--- the state that these lists are
-abbrev pub state_of : List Cell → List Worker → State
-state_of cells workers = record { cells = cells; workers = workers }

@@ -1,11 +1,12 @@
+-- The tiles' values as the events move them.
 use Rattle.std.specs.Prelude.{◌≡◌, ℕ, Option, Some, None, option_and_then, Bool, true, false, is_ok, List, [], ◌∷◌, ◌++◌, length, map, All, slice_get, slice_set, if◌then◌else◌}
 use Rattle.std.specs.Option.{option_map_or}
 use Rattle.tile_machine.specs.declared.event.Event.{Event}
 use Rattle.tile_machine.specs.declared.event.Event.TheVariants.{BringOut, PutBack}
 use Rattle.tile_machine.specs.declared.state.Cell.{Cell}
 use Rattle.tile_machine.specs.At.{At}
-use Rattle.tile_machine.specs.State.{State, start, cell_of}
-use Rattle.tile_machine.specs.Next.{next, after, leads}
+use Rattle.tile_machine.specs.State.{State, first_state, cell_of}
+use Rattle.tile_machine.specs.Next.{next_state, after, leads}
 
 -- the tiles' values as the events move them: the one at home at each place, none while it is out, and all that were brought out so far, each with its place
 pub record Values (T : Type 0) : Type 0 where
@@ -45,16 +46,16 @@ moved world finished s _ v = v
 abbrev pub carried : {T : Type 0} → List T → List T → State → List Event → Values T → Values T
 carried world finished s [] v = v
 carried world finished s (e ∷ es) v =
-    carried world finished (after s (next s e)) es (if is_ok (next s e) then moved world finished s e v else v)
+    carried world finished (after s (next_state s e)) es (if is_ok (next_state s e) then moved world finished s e v else v)
 
 -- the state of a machine over this world after these events, from the start
 abbrev pub state_after : {T : Type 0} → List T → ℕ → List Event → State
-state_after world workers events = leads (start (length world) workers) events
+state_after world workers events = leads (first_state (length world) workers) events
 
 -- the values of this world after these events, from the start
 abbrev pub values_after : {T : Type 0} → List T → List T → ℕ → List Event → Values T
 values_after world finished workers events =
-    carried world finished (start (length world) workers) events (opening world)
+    carried world finished (first_state (length world) workers) events (opening world)
 
 -- the value at home of this tile, as the machine knows it: the one that the mark says, and none while it is out
 abbrev pub value_of : {T : Type 0} → List T → List T → ℕ → Cell → Option T

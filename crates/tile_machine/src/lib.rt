@@ -2,14 +2,24 @@
 //! of the workers, right for every list of events. There are no threads here.
 #![tactic(auto)]
 
-pub mod event;
-pub mod machine;
-pub mod parts;
-pub mod phase;
-pub mod plain;
-pub mod refused;
-pub mod state;
+mod event;
+mod machine;
+mod parts;
+mod phase;
+mod plain;
+mod refused;
+mod state;
 mod table;
+mod values;
+
+pub use event::Event;
+pub use machine::Machine;
+pub use parts::{PartFault, Parts};
+pub use phase::Phase;
+pub use plain::PlainParts;
+pub use refused::Refused;
+pub use state::{Cell, Worker};
+pub use values::{claims_stay, values_follow_marks};
+
 #[cfg(test)]
 mod tests;
-pub mod values;

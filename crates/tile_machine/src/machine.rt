@@ -3,8 +3,9 @@
 ghost use Rattle.std.specs.Prelude.{◌≡◌, ℕ, ◌<◌, ◌≤◌, ◌^◌, List, length, Ok, Err, IfOk, IfErr, OnOk, OnErr, map, replicate};
 ghost use Rattle.std.specs.List.{range_with_len};
 ghost use Rattle.tile_machine.specs.Good.{IsGood};
-ghost use Rattle.tile_machine.specs.Next.{next, leads, accepted};
-ghost use Rattle.tile_machine.specs.State.{State, state_of, untouched, ranging, start};
+ghost use Rattle.tile_machine.specs.Next.{next_state, leads, accepted};
+ghost use Rattle.tile_machine.specs.State.{State, untouched, ranging, first_state};
+ghost use Rattle.tile_machine.specs.Inner.{state_of};
 
 use crate::event::Event;
 use crate::refused::Refused;
@@ -28,20 +29,18 @@ impl Model for Machine {
     ghost invariant = { λ m. IsGood (length m.workers.items) (state_of m.cells.items m.workers.items) };
 }
 
-/// This many tiles, each without a claim, a turn and a mark, and with its value in its place.
 fn untouched_cells(alloc: Global, tiles: u64) -> Result<Vec<Cell>, AllocError>
     ensures { IfOk result (λ cells. cells.items ≡ replicate tiles untouched) }
 {
     let untouched = Cell {
         claim: None,
-        turn: None,
+        lock: None,
         marked: false,
         home: true,
     };
     vec![in alloc; untouched; tiles as usize]
 }
 
-/// The workers of these numbers, none of which lives.
 fn idle_workers(alloc: Global, workers: u64) -> Result<Vec<Worker>, AllocError>
     ensures { IfOk result (λ all. all.items ≡ map (λ n. ranging n n) (range_with_len 0 workers)) }
 {
@@ -55,13 +54,13 @@ fn idle_workers(alloc: Global, workers: u64) -> Result<Vec<Worker>, AllocError>
 }
 
 impl Machine {
-    /// A machine with this many tiles and workers. No tile has a claim, a turn or a mark, each value is in its place, and
+    /// A machine with this many tiles and workers. No tile has a claim, a lock or a mark, each value is in its place, and
     /// worker 0 has all the numbers.
     pub fn new(alloc: Global, tiles: u64, workers: u64) -> Result<Machine, AllocError>
         requires tiles { tiles < 2 ^ 32 }
         requires some { 1 ≤ workers }
         requires few { workers ≤ 64 }
-        ensures start { IfOk result (λ m. m ≡ start tiles workers) }
+        ensures start { IfOk result (λ m. m ≡ first_state tiles workers) }
         ensures good { IfOk result (IsGood workers) }
     {
         let cells = untouched_cells(alloc, tiles)?;
@@ -79,8 +78,8 @@ impl Machine {
 
     /// Takes the event, or says the first cause for which it is refused and changes nothing.
     pub fn step(&mut self, event: Event) -> Result<(), Refused>
-        ensures taken { OnOk result (next self.old event ≡ Ok self.new) }
-        ensures refused { IfErr result (λ cause. next self.old event ≡ Err cause) }
+        ensures taken { OnOk result (next_state self.old event ≡ Ok self.new) }
+        ensures refused { IfErr result (λ cause. next_state self.old event ≡ Err cause) }
         ensures unchanged { OnErr result (self.new ≡ self.old) }
         ensures good { IsGood (length self.old.workers) self.new }
     {

@@ -9,11 +9,11 @@ pub enum Refused {
     NoTile,
     /// The tile is claimed already.
     Claimed { by: u64 },
-    /// The worker holds a turn already.
+    /// The worker holds a lock already.
     HandsFull { tile: u64 },
-    /// The turn of the tile is held.
+    /// The lock of the tile is held.
     Held { by: u64 },
-    /// The worker doesn't hold the turn of the tile.
+    /// The worker doesn't hold the lock of the tile.
     NotHolder,
     /// The tile's value is out.
     IsOut,
@@ -25,6 +25,6 @@ pub enum Refused {
     Marked,
     /// The place of the cut isn't strictly inside the worker's range, or the other's range isn't the next one.
     BadRange,
-    /// The worker that is to end holds the turn of this tile.
+    /// The worker that is to end holds the lock of this tile.
     StillHolds { tile: u64 },
 }

@@ -5,8 +5,8 @@
 pub struct Cell {
     /// The worker that has claimed the tile.
     pub claim: Option<u64>,
-    /// The worker that holds the tile's turn.
-    pub turn: Option<u64>,
+    /// The worker that holds the tile's lock.
+    pub lock: Option<u64>,
     /// Whether the tile is marked as finished.
     pub marked: bool,
     /// Whether the tile's value is in its place.
@@ -20,6 +20,6 @@ pub struct Worker {
     pub first: u64,
     /// The number behind its range. A worker with an empty range doesn't live.
     pub end: u64,
-    /// The tile whose turn it holds.
+    /// The tile whose lock it holds.
     pub hand: Option<u64>,
 }

@@ -2,14 +2,15 @@
 
 ghost use Rattle.std.specs.Prelude.{◌≡◌, ◌&&◌, length, slice_get, nat_lt};
 ghost use Rattle.tile_machine.specs.Good.{IsGood};
-ghost use Rattle.tile_machine.specs.Next.{names, if_next, Follows};
-ghost use Rattle.tile_machine.specs.State.{if_live, state_of};
+ghost use Rattle.tile_machine.specs.Next.{names, if_next};
+ghost use Rattle.tile_machine.specs.Inner.{Follows};
+ghost use Rattle.tile_machine.specs.State.{if_live};
+ghost use Rattle.tile_machine.specs.Inner.{state_of};
 
 use crate::event::Event;
 use crate::refused::Refused;
 use crate::state::{Cell, Worker};
 
-/// The live worker of this number.
 fn live(workers: &[Worker], n: u64) -> Option<Worker>
     ensures { result ≡ if_live (slice_get workers.now n) }
 {
@@ -24,7 +25,6 @@ fn live(workers: &[Worker], n: u64) -> Option<Worker>
     }
 }
 
-/// The tile at this place.
 fn found(cells: &[Cell], tile: u64) -> Option<Cell>
     ensures { result ≡ slice_get cells.now tile }
 {
@@ -34,7 +34,6 @@ fn found(cells: &[Cell], tile: u64) -> Option<Cell>
     Some(cells[tile as usize])
 }
 
-/// Whether a claim or a turn names this worker.
 fn is_named(who: Option<u64>, worker: u64) -> bool
     ensures { result ≡ names who worker }
 {
@@ -44,14 +43,12 @@ fn is_named(who: Option<u64>, worker: u64) -> bool
     }
 }
 
-/// Whether the place is strictly inside the worker's range.
 fn is_inside(me: Worker, at: u64) -> bool
     ensures { result ≡ (nat_lt me.first at && nat_lt at me.end) }
 {
     me.first < at && at < me.end
 }
 
-/// The live worker of this number, where its range begins at the end of `me`'s.
 fn next_to(workers: &[Worker], me: Worker, other: u64) -> Option<Worker>
     ensures { result ≡ if_next me (if_live (slice_get workers.now other)) }
 {
@@ -89,10 +86,10 @@ fn take(cells: &mut [Cell], workers: &mut [Worker], worker: u64, tile: u64) -> R
     if let Some(tile) = me.hand {
         return Err(Refused::HandsFull { tile });
     }
-    if let Some(by) = it.turn {
+    if let Some(by) = it.lock {
         return Err(Refused::Held { by });
     }
-    cells[tile as usize].turn = Some(worker);
+    cells[tile as usize].lock = Some(worker);
     workers[worker as usize].hand = Some(tile);
     Ok(())
 }
@@ -107,7 +104,7 @@ fn bring_out(cells: &mut [Cell], workers: &[Worker], worker: u64, tile: u64) -> 
     let Some(it) = found(cells, tile) else {
         return Err(Refused::NoTile);
     };
-    if !is_named(it.turn, worker) {
+    if !is_named(it.lock, worker) {
         return Err(Refused::NotHolder);
     }
     if !it.home {
@@ -127,7 +124,7 @@ fn mark(cells: &mut [Cell], workers: &[Worker], worker: u64, tile: u64) -> Resul
     let Some(it) = found(cells, tile) else {
         return Err(Refused::NoTile);
     };
-    if !is_named(it.turn, worker) {
+    if !is_named(it.lock, worker) {
         return Err(Refused::NotHolder);
     }
     if it.home {
@@ -153,7 +150,7 @@ fn put_back(cells: &mut [Cell], workers: &[Worker], worker: u64, tile: u64) -> R
     let Some(it) = found(cells, tile) else {
         return Err(Refused::NoTile);
     };
-    if !is_named(it.turn, worker) {
+    if !is_named(it.lock, worker) {
         return Err(Refused::NotHolder);
     }
     if it.home {
@@ -173,13 +170,13 @@ fn free(cells: &mut [Cell], workers: &mut [Worker], worker: u64, tile: u64) -> R
     let Some(it) = found(cells, tile) else {
         return Err(Refused::NoTile);
     };
-    if !is_named(it.turn, worker) {
+    if !is_named(it.lock, worker) {
         return Err(Refused::NotHolder);
     }
     if !it.home {
         return Err(Refused::IsOut);
     }
-    cells[tile as usize].turn = None;
+    cells[tile as usize].lock = None;
     workers[worker as usize].hand = None;
     Ok(())
 }
@@ -226,7 +223,6 @@ fn join(cells: &[Cell], workers: &mut [Worker], worker: u64, other: u64) -> Resu
     Ok(())
 }
 
-/// Takes one event by the function of its kind.
 pub fn step(cells: &mut [Cell], workers: &mut [Worker], event: Event) -> Result<(), Refused>
     requires { IsGood (length workers.old) (state_of cells.old workers.old) }
     ensures table { Follows (state_of cells.old workers.old) event result

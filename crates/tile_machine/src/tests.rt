@@ -3,10 +3,7 @@
 
 ghost use Rattle.std.specs.Prelude.{◌<◌, ◌≤◌, ◌^◌};
 
-use crate::event::Event;
-use crate::machine::Machine;
-use crate::refused::Refused;
-use crate::values::claims_stay;
+use crate::{Event, Machine, Refused, claims_stay};
 use slow::Slow;
 use std::alloc::Global;
 use std::process::Abort;

@@ -5,9 +5,9 @@ use Rattle.std.proofs.lemmas.List.{length-set}
 use mathlib.Core.Logic.{dite}
 use native.Mathlib.Decide.{ℕ_discrete}
 use Rattle.tile_table.specs.declared.view.View.{View}
-use Rattle.tile_table.specs.Counts.{same, pairs, total}
+use Rattle.tile_table.specs.Counts.{same, pairs_in, total}
 use Rattle.tile_table.specs.Views.{claiming, marking, with_claim}
-use Rattle.tile_table.specs.Shows.{Table, Shows, Knows, claim_of, turn_of, mark_of}
+use Rattle.tile_table.specs.Shows.{Table, Shows, Knows, claim_of, lock_of, mark_of}
 use Rattle.tile_table.proofs.Bits.{same-ne, same-shift, both-same, both-other}
 use Rattle.tile_table.proofs.Sums.{pairs-append}
 use Rattle.tile_table.proofs.Words.{read-here, read-else}
@@ -37,16 +37,16 @@ module _ {T : Type 0} where
       let there : word < length s.words = omega (arith, sh.one_world.words, inside) in
       let here : slice_index ws word ≡ v.first + 1 = read-here s.words word (v.first + 1) there in
       let else : (b : ℕ) → b ≢ word → slice_index ws b ≡ slice_index s.words b = λ b ne. read-else s.words word b (v.first + 1) ne in
-      let turns : (i : ℕ) → slice_index ws (3 * i + 1) ≡ turn_of s i = λ i. else (3 * i + 1) (λ e. omega arith) in
+      let locks : (i : ℕ) → slice_index ws (3 * i + 1) ≡ lock_of s i = λ i. else (3 * i + 1) (λ e. omega arith) in
       let marks : (i : ℕ) → slice_index ws (3 * i + 2) ≡ mark_of s i = λ i. else (3 * i + 2) (λ e. omega arith) in
       let claims : (i : ℕ) → i ≢ j → slice_index ws (3 * i) ≡ claim_of s i = λ i ne. else (3 * i) (λ e. ne (omega arith)) in
-      let more : (n i : ℕ) → claiming n i w ≡ claiming n i v + pairs n i ((v.first, j) ∷ []) = λ n i. pairs-append n i v.claims ((v.first, j) ∷ []) in
+      let more : (n i : ℕ) → claiming n i w ≡ claiming n i v + pairs_in n i ((v.first, j) ∷ []) = λ n i. pairs-append n i v.claims ((v.first, j) ∷ []) in
       let keep : Keeps s sh.world sh.goal k v w ws s.homes =
       record {
         words = length-set s.words word (v.first + 1);
         slots = refl;
-        holders = λ n i. omega (arith, sh.turns.holders n i, ap (λ x. same x (n + 2)) (turns i));
-        taken = λ i n e. sh.turns.taken k v i n at e;
+        holders = λ n i. omega (arith, sh.locks.holders n i, ap (λ x. same x (n + 2)) (locks i));
+        taken = λ i n e. sh.locks.taken k v i n at e;
         more_takes = λ n i. omega arith;
         claims =
             λ n i. dite (ℕ_discrete i j)
@@ -60,10 +60,10 @@ module _ {T : Type 0} where
         marks = λ i. omega (arith, sh.marks.marks i, marks i);
         once = λ i. omega (arith, sh.marks.once i, marks i);
         marks_stay = λ i e. marks i ∙ e;
-        free = λ i low. omega (arith, turns i, marks i, sh.marks.free i (omega (arith, turns i, low)));
+        free = λ i low. omega (arith, locks i, marks i, sh.marks.free i (omega (arith, locks i, low)));
         hand = λ i n e. marks i ∙ sh.marks.hands k v i n at e;
         hands = λ l u i n bt ne e. marks i ∙ sh.marks.hands l u i n bt e;
         claimed = λ i h. let c = sh.marks.claimed k v i at h in (c.0, omega (arith, more c.0 i, c.1));
-        homes = λ i n u e stands. sh.homes i n u (sym (turns i) ∙ e) stands;
+        homes = λ i n u e stands. sh.homes i n u (sym (locks i) ∙ e) stands;
       }
       in rebuilt s sh k v at live ws s.homes v.hand (v.claims ++ (v.first, j) ∷ []) v.takes v.marks keep

@@ -7,7 +7,7 @@ use Rattle.atomic_table.specs.Table.{Splits, Joins}
 use Rattle.atomic_table.proofs.Lists.{at_snoc, set_else}
 use Rattle.tile_table.specs.declared.view.View.{View}
 use Rattle.tile_table.specs.declared.view.Hand.TheVariants.{Empty, Holds}
-use Rattle.tile_table.specs.Counts.{bit, times, pairs, total}
+use Rattle.tile_table.specs.Counts.{bit, times_in, pairs_in, total}
 use Rattle.tile_table.specs.Views.{held, nobody, lower, upper, joined, covering, claiming, taking, marking, holding}
 use Rattle.tile_table.specs.Shows.{Shows, claim_of, mark_of}
 use Rattle.tile_table.proofs.Bits.{cut, no-range}
@@ -55,11 +55,11 @@ module _ {T : Type 0} where
               ranges = λ n. sums (covering n) (cut v.first x v.end n (omega (arith, above)) (omega (arith, below))) ∙ o.ranges n;
               ended = each (λ u. u.end ≤ u.first → u ≡ nobody) (λ h. absurd (omega (arith, above, h))) (λ h. absurd (omega (arith, below, h))) o.ended;
             };
-        turns =
+        locks =
             record {
-              holders = λ n i. sums (holding n i) (omega arith) ∙ sh.turns.holders n i;
+              holders = λ n i. sums (holding n i) (omega arith) ∙ sh.locks.holders n i;
               taken =
-                  λ j u i m bt. each (λ u. (i : ℕ) (m : Bool) → u.hand ≡ Holds i m → 0 < taking u.first i u) (λ i m e. sh.turns.taken id v i m at e) (λ i m e. absurd (not-empty i m e)) (λ j u bt i m e. sh.turns.taken j u i m bt e) j u bt i m;
+                  λ j u i m bt. each (λ u. (i : ℕ) (m : Bool) → u.hand ≡ Holds i m → 0 < taking u.first i u) (λ i m e. sh.locks.taken id v i m at e) (λ i m e. absurd (not-empty i m e)) (λ j u bt i m e. sh.locks.taken j u i m bt e) j u bt i m;
             };
         claims = λ n i. sums (claiming n i) (omega arith) ∙ sh.claims n i;
         marks =
@@ -73,10 +73,10 @@ module _ {T : Type 0} where
         homes = sh.homes;
         reads =
             record {
-              known = λ j u i bt. each (λ u. (i : ℕ) → 0 < times i u.known → mark_of s i ≡ 1) (λ i h. sh.reads.known id v i at h) (λ i h. absurd (omega (arith, h))) (λ j u bt i h. sh.reads.known j u i bt h) j u bt i;
-              seen = λ j u i by bt. each (λ u. (i by : ℕ) → 0 < pairs i by u.seen → claim_of s i ≡ by + 1) (λ i by h. sh.reads.seen id v i by at h) (λ i by h. absurd (omega (arith, h))) (λ j u bt i by h. sh.reads.seen j u i by bt h) j u bt i by;
+              known = λ j u i bt. each (λ u. (i : ℕ) → 0 < times_in i u.known → mark_of s i ≡ 1) (λ i h. sh.reads.known id v i at h) (λ i h. absurd (omega (arith, h))) (λ j u bt i h. sh.reads.known j u i bt h) j u bt i;
+              seen = λ j u i by bt. each (λ u. (i by : ℕ) → 0 < pairs_in i by u.seen → claim_of s i ≡ by + 1) (λ i by h. sh.reads.seen id v i by at h) (λ i by h. absurd (omega (arith, h))) (λ j u bt i by h. sh.reads.seen j u i by bt h) j u bt i by;
               lost =
-                  λ j u i h bt. each (λ u. (i h : ℕ) → 0 < pairs i h u.lost → 0 < total (taking h i) views)
+                  λ j u i h bt. each (λ u. (i h : ℕ) → 0 < pairs_in i h u.lost → 0 < total (taking h i) views)
                   (λ i h p. omega (arith, takes h i, sh.reads.lost id v i h at p))
                   (λ i h p. absurd (omega (arith, p)))
                   (λ j u bt i h p. omega (arith, takes h i, sh.reads.lost j u i h bt p)) j u bt i h;
@@ -108,12 +108,12 @@ module _ {T : Type 0} where
               ranges = λ n. sums (covering n) (ranges n) (no-range n) ∙ o.ranges n;
               ended = each (λ u. u.end ≤ u.first → u ≡ nobody) (λ h. absurd (omega (arith, live, next, alive, h))) (λ h. refl) o.ended;
             };
-        turns =
+        locks =
             record {
-              holders = λ n i. sums (holding n i) (omega (arith, ap (held n i w.first) empty)) refl ∙ sh.turns.holders n i;
+              holders = λ n i. sums (holding n i) (omega (arith, ap (held n i w.first) empty)) refl ∙ sh.locks.holders n i;
               taken =
                   λ j u i m bt. each (λ u. (i : ℕ) (m : Bool) → u.hand ≡ Holds i m → 0 < taking u.first i u)
-                  (λ i m e. omega (arith, pairs-append v.first i v.takes w.takes, sh.turns.taken id v i m at e)) (λ i m e. absurd (not-empty i m e)) (λ j u bt i m e. sh.turns.taken j u i m bt e) j u bt i m;
+                  (λ i m e. omega (arith, pairs-append v.first i v.takes w.takes, sh.locks.taken id v i m at e)) (λ i m e. absurd (not-empty i m e)) (λ j u bt i m e. sh.locks.taken j u i m bt e) j u bt i m;
             };
         claims = λ n i. sums (claiming n i) (pairs-append n i v.claims w.claims) refl ∙ sh.claims n i;
         marks =
@@ -134,19 +134,19 @@ module _ {T : Type 0} where
         reads =
             record {
               known =
-                  λ j u i bt. each (λ u. (i : ℕ) → 0 < times i u.known → mark_of s i ≡ 1)
-                  (λ i h. ⊎_elim (λ p. sh.reads.known id v i at p) (λ p. sh.reads.known other w i wt p) (part_of (times i v.known) (times i w.known) (omega (arith, times-append i v.known w.known, h))))
+                  λ j u i bt. each (λ u. (i : ℕ) → 0 < times_in i u.known → mark_of s i ≡ 1)
+                  (λ i h. ⊎_elim (λ p. sh.reads.known id v i at p) (λ p. sh.reads.known other w i wt p) (part_of (times_in i v.known) (times_in i w.known) (omega (arith, times-append i v.known w.known, h))))
                   (λ i h. absurd (omega (arith, h))) (λ j u bt i h. sh.reads.known j u i bt h) j u bt i;
               seen =
-                  λ j u i by bt. each (λ u. (i by : ℕ) → 0 < pairs i by u.seen → claim_of s i ≡ by + 1)
-                  (λ i by h. ⊎_elim (λ p. sh.reads.seen id v i by at p) (λ p. sh.reads.seen other w i by wt p) (part_of (pairs i by v.seen) (pairs i by w.seen) (omega (arith, pairs-append i by v.seen w.seen, h))))
+                  λ j u i by bt. each (λ u. (i by : ℕ) → 0 < pairs_in i by u.seen → claim_of s i ≡ by + 1)
+                  (λ i by h. ⊎_elim (λ p. sh.reads.seen id v i by at p) (λ p. sh.reads.seen other w i by wt p) (part_of (pairs_in i by v.seen) (pairs_in i by w.seen) (omega (arith, pairs-append i by v.seen w.seen, h))))
                   (λ i by h. absurd (omega (arith, h))) (λ j u bt i by h. sh.reads.seen j u i by bt h) j u bt i by;
               lost =
-                  λ j u i h bt. each (λ u. (i h : ℕ) → 0 < pairs i h u.lost → 0 < total (taking h i) views)
+                  λ j u i h bt. each (λ u. (i h : ℕ) → 0 < pairs_in i h u.lost → 0 < total (taking h i) views)
                   (λ i h p. ⊎_elim
                   (λ q. omega (arith, takes h i, sh.reads.lost id v i h at q))
                   (λ q. omega (arith, takes h i, sh.reads.lost other w i h wt q))
-                  (part_of (pairs i h v.lost) (pairs i h w.lost) (omega (arith, pairs-append i h v.lost w.lost, p))))
+                  (part_of (pairs_in i h v.lost) (pairs_in i h w.lost) (omega (arith, pairs-append i h v.lost w.lost, p))))
                   (λ i h p. absurd (omega (arith, p)))
                   (λ j u bt i h p. omega (arith, takes h i, sh.reads.lost j u i h bt p)) j u bt i h;
             };

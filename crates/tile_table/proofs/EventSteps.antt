@@ -11,8 +11,8 @@ use Rattle.std.proofs.Math.ListN.{get_elem?}
 use Rattle.atomic_table.proofs.Lists.{at_set, set_else}
 use Rattle.tile_machine.specs.declared.refused.Refused.{Refused}
 use Rattle.std.specs.List.{range_with_len}
-use Rattle.tile_machine.specs.State.{State, worker_of, cell_of, with_cell, with_worker, ranging, untouched, start}
-use Rattle.tile_machine.specs.Next.{next, if_next, given, unless, provided, names}
+use Rattle.tile_machine.specs.State.{State, worker_of, cell_of, with_cell, with_worker, ranging, untouched, first_state}
+use Rattle.tile_machine.specs.Next.{next_state, if_next, given, unless, provided, names}
 use Rattle.tile_machine.specs.declared.state.Cell.{Cell}
 use Rattle.tile_machine.specs.declared.state.Worker.{Worker}
 use Rattle.tile_machine.specs.declared.event.Event.TheVariants.{Claim, Take, BringOut, Mark, PutBack, Free, Split, Join}
@@ -21,7 +21,7 @@ use Rattle.tile_table.specs.declared.view.View.{View}
 use Rattle.tile_table.specs.declared.view.Hand.TheVariants.{Empty, Holds}
 use Rattle.tile_table.specs.Counts.{bit}
 use Rattle.tile_table.specs.Views.{opening_view, claiming, marking, with_claim, with_seen, with_lost, with_known, with_take, with_mark, with_no_hand, lower, upper, joined, nobody}
-use Rattle.tile_table.specs.Shows.{Table, Shows, Knows, claim_of, turn_of, mark_of}
+use Rattle.tile_table.specs.Shows.{Table, Shows, Knows, claim_of, lock_of, mark_of}
 use Rattle.tile_table.specs.Events.{named, with_views, is_worker, listed, place_held, cell_at, worker_of_view, worker_at, shown, StepsAreEvents, BeginsAsMachine}
 use Rattle.tile_table.proofs.Bits.{bit-le, within}
 use Rattle.tile_table.proofs.Words.{read-here, read-else, write-same}
@@ -32,13 +32,13 @@ use Rattle.tile_table.proofs.Listed.{choose, named-by, worker-found, same-listed
 
 -- the table of events, one event at a time, where nothing refuses it
 claim-next : (a : State) (n i : ℕ) (me : Worker) (it : Cell) → worker_of a n ≡ Some me → cell_of a i ≡ Some it → it.claim ≡ None
-    → next a (Claim n i) ≡ Ok (with_cell a i (record it { claim = Some n }))
+    → next_state a (Claim n i) ≡ Ok (with_cell a i (record it { claim = Some n }))
 claim-next a n i me it w c f =
     ap (λ o. given o NoWorker (λ me. given (cell_of a i) NoTile (λ it. unless it.claim Claimed (Ok (with_cell a i (record it { claim = Some n })))))) w
     ∙ ap (λ o. given o NoTile (λ it. unless it.claim Claimed (Ok (with_cell a i (record it { claim = Some n }))))) c
     ∙ ap (λ o. unless o Claimed (Ok (with_cell a i (record it { claim = Some n })))) f
 
-claim-refused : (a : State) (n i by : ℕ) (me : Worker) (it : Cell) → worker_of a n ≡ Some me → cell_of a i ≡ Some it → it.claim ≡ Some by → next a (Claim n i) ≡ Err (Claimed by)
+claim-refused : (a : State) (n i by : ℕ) (me : Worker) (it : Cell) → worker_of a n ≡ Some me → cell_of a i ≡ Some it → it.claim ≡ Some by → next_state a (Claim n i) ≡ Err (Claimed by)
 claim-refused a n i by me it w c f =
     ap (λ o. given o NoWorker (λ me. given (cell_of a i) NoTile (λ it. unless it.claim Claimed (Ok (with_cell a i (record it { claim = Some n })))))) w
     ∙ ap (λ o. given o NoTile (λ it. unless it.claim Claimed (Ok (with_cell a i (record it { claim = Some n }))))) c
@@ -64,7 +64,7 @@ placed inside j filled i = if i == j then filled else inside i
 
 -- a cell, by its words
 abbrev cell_by : ℕ → ℕ → ℕ → Bool → Cell
-cell_by claim turn mark inside = record { claim = named 1 claim; turn = named 2 turn; marked = eqb mark 1; home = nat_lt turn 2 || inside }
+cell_by claim lock mark inside = record { claim = named 1 claim; lock = named 2 lock; marked = eqb mark 1; home = nat_lt lock 2 || inside }
 
 cells-same : (a b c d e f : ℕ) (x y : Bool) → a ≡ b → c ≡ d → e ≡ f → x ≡ y → cell_by a c e x ≡ cell_by b d f y
 cells-same a b c d e f x y p q r t = λ i. cell_by (p i) (q i) (r i) (t i)
@@ -72,21 +72,21 @@ cells-same a b c d e f x y p q r t = λ i. cell_by (p i) (q i) (r i) (t i)
 states-same : (a b : State) → a.cells ≡ b.cells → a.workers ≡ b.workers → a ≡ b
 states-same a b p q = λ i. record { cells = p i; workers = q i }
 
-take-next : (a : State) (n j : ℕ) (me : Worker) (it : Cell) → worker_of a n ≡ Some me → cell_of a j ≡ Some it → me.hand ≡ None → it.turn ≡ None
-    → next a (Take n j) ≡ Ok (with_worker (with_cell a j (record it { turn = Some n })) n (record me { hand = Some j }))
+take-next : (a : State) (n j : ℕ) (me : Worker) (it : Cell) → worker_of a n ≡ Some me → cell_of a j ≡ Some it → me.hand ≡ None → it.lock ≡ None
+    → next_state a (Take n j) ≡ Ok (with_worker (with_cell a j (record it { lock = Some n })) n (record me { hand = Some j }))
 take-next a n j me it w c h f =
-    let done : Worker → Cell → Result State Refused = λ me it. Ok (with_worker (with_cell a j (record it { turn = Some n })) n (record me { hand = Some j })) in
-    ap (λ o. given o NoWorker (λ me. given (cell_of a j) NoTile (λ it. unless me.hand HandsFull (unless it.turn Held (done me it))))) w
-    ∙ ap (λ o. given o NoTile (λ it. unless me.hand HandsFull (unless it.turn Held (done me it)))) c
-    ∙ ap (λ o. unless o HandsFull (unless it.turn Held (done me it))) h
+    let done : Worker → Cell → Result State Refused = λ me it. Ok (with_worker (with_cell a j (record it { lock = Some n })) n (record me { hand = Some j })) in
+    ap (λ o. given o NoWorker (λ me. given (cell_of a j) NoTile (λ it. unless me.hand HandsFull (unless it.lock Held (done me it))))) w
+    ∙ ap (λ o. given o NoTile (λ it. unless me.hand HandsFull (unless it.lock Held (done me it)))) c
+    ∙ ap (λ o. unless o HandsFull (unless it.lock Held (done me it))) h
     ∙ ap (λ o. unless o Held (done me it)) f
 
-take-refused : (a : State) (n j h : ℕ) (me : Worker) (it : Cell) → worker_of a n ≡ Some me → cell_of a j ≡ Some it → me.hand ≡ None → it.turn ≡ Some h → next a (Take n j) ≡ Err (Held h)
+take-refused : (a : State) (n j h : ℕ) (me : Worker) (it : Cell) → worker_of a n ≡ Some me → cell_of a j ≡ Some it → me.hand ≡ None → it.lock ≡ Some h → next_state a (Take n j) ≡ Err (Held h)
 take-refused a n j h me it w c e f =
-    let done : Worker → Cell → Result State Refused = λ me it. Ok (with_worker (with_cell a j (record it { turn = Some n })) n (record me { hand = Some j })) in
-    ap (λ o. given o NoWorker (λ me. given (cell_of a j) NoTile (λ it. unless me.hand HandsFull (unless it.turn Held (done me it))))) w
-    ∙ ap (λ o. given o NoTile (λ it. unless me.hand HandsFull (unless it.turn Held (done me it)))) c
-    ∙ ap (λ o. unless o HandsFull (unless it.turn Held (done me it))) e
+    let done : Worker → Cell → Result State Refused = λ me it. Ok (with_worker (with_cell a j (record it { lock = Some n })) n (record me { hand = Some j })) in
+    ap (λ o. given o NoWorker (λ me. given (cell_of a j) NoTile (λ it. unless me.hand HandsFull (unless it.lock Held (done me it))))) w
+    ∙ ap (λ o. given o NoTile (λ it. unless me.hand HandsFull (unless it.lock Held (done me it)))) c
+    ∙ ap (λ o. unless o HandsFull (unless it.lock Held (done me it))) e
     ∙ ap (λ o. unless o Held (done me it)) f
 
 -- what stands behind the two first causes
@@ -140,7 +140,7 @@ module _ {T : Type 0} where
       (at_set s.views k j w u bt)))
 
   claim-event : (s : Table T) → (sh : Shows s) → (k : ℕ) (v : View T) (i : ℕ) (inside : ℕ → Bool) (c : List (ℕ × Option T)) → Knows s k v → v.first < v.end → i < length s.homes → claim_of s i ≡ 0
-      → next (shown sh.workers inside s) (Claim v.first i) ≡ Ok (shown sh.workers inside (stepped s (3 * i) (v.first + 1) k c (with_claim v i) keeps))
+      → next_state (shown sh.workers inside s) (Claim v.first i) ≡ Ok (shown sh.workers inside (stepped s (3 * i) (v.first + 1) k c (with_claim v i) keeps))
   claim-event s sh k v i inside c at live there free =
       let n : ℕ = v.first in
       let a : State = shown sh.workers inside s in
@@ -149,29 +149,29 @@ module _ {T : Type 0} where
       let word : 3 * i < length s.words = omega (arith, sh.one_world.words, there) in
       let kept : (b : ℕ) → b ≢ 3 * i → slice_index t.words b ≡ slice_index s.words b = λ b ne. read-else s.words (3 * i) b (n + 1) ne in
       let here : claim_of t i ≡ n + 1 = read-here s.words (3 * i) (n + 1) word in
-      let turn : (j : ℕ) → turn_of t j ≡ turn_of s j = λ j. kept (3 * j + 1) (λ e. omega arith) in
+      let lock : (j : ℕ) → lock_of t j ≡ lock_of s j = λ j. kept (3 * j + 1) (λ e. omega arith) in
       let mark : (j : ℕ) → mark_of t j ≡ mark_of s j = λ j. kept (3 * j + 2) (λ e. omega arith) in
       let new : record it { claim = Some n } ≡ cell_at t inside i =
-      (λ x. record { claim = sym (named-some 1 (claim_of t i) n here) x; turn = named 2 (sym (turn i) x); marked = eqb (sym (mark i) x) 1; home = nat_lt (sym (turn i) x) 2 || inside i }) in
+      (λ x. record { claim = sym (named-some 1 (claim_of t i) n here) x; lock = named 2 (sym (lock i) x); marked = eqb (sym (mark i) x) 1; home = nat_lt (sym (lock i) x) 2 || inside i }) in
       claim-next a n i (worker_of_view v) it (worker-lives s sh inside k v at live) (cell-there s sh.workers inside i there) (named-none 1 (claim_of s i) (omega (arith, free)))
       ∙ ap (λ z. Ok z)
       (states-same (with_cell a i (record it { claim = Some n })) (shown sh.workers inside t)
       (set-listed (cell_at s inside) (cell_at t inside) 0 (length s.homes) i (record it { claim = Some n }) (new ∙ ap (cell_at t inside) (omega arith))
-      (λ j ne. cells-same (claim_of s j) (claim_of t j) (turn_of s j) (turn_of t j) (mark_of s j) (mark_of t j) (inside j) (inside j) (sym (kept (3 * j) (λ e. ne (omega (arith, e))))) (sym (turn j)) (sym (mark j)) refl))
+      (λ j ne. cells-same (claim_of s j) (claim_of t j) (lock_of s j) (lock_of t j) (mark_of s j) (mark_of t j) (inside j) (inside j) (sym (kept (3 * j) (λ e. ne (omega (arith, e))))) (sym (lock j)) (sym (mark j)) refl))
       (same-listed (worker_at s.views) (worker_at t.views) 0 sh.workers (λ j le. sym (workers-same s.views k v (with_claim v i) at refl j))))
 
   claimed-event : (s : Table T) → (sh : Shows s) → (k : ℕ) (v : View T) (i by : ℕ) (inside : ℕ → Bool) → Knows s k v → v.first < v.end → i < length s.homes → claim_of s i ≡ by + 1
-      → next (shown sh.workers inside s) (Claim v.first i) ≡ Err (Claimed by)
+      → next_state (shown sh.workers inside s) (Claim v.first i) ≡ Err (Claimed by)
   claimed-event s sh k v i by inside at live there found =
       claim-refused (shown sh.workers inside s) v.first i by (worker_of_view v) (cell_at s inside i) (worker-lives s sh inside k v at live) (cell-there s sh.workers inside i there) (named-some 1 (claim_of s i) by found)
 
-  held-event : (s : Table T) → (sh : Shows s) → (k : ℕ) (v : View T) (j h : ℕ) (inside : ℕ → Bool) → Knows s k v → v.first < v.end → j < length s.homes → v.hand ≡ Empty → turn_of s j ≡ h + 2
-      → next (shown sh.workers inside s) (Take v.first j) ≡ Err (Held h)
+  held-event : (s : Table T) → (sh : Shows s) → (k : ℕ) (v : View T) (j h : ℕ) (inside : ℕ → Bool) → Knows s k v → v.first < v.end → j < length s.homes → v.hand ≡ Empty → lock_of s j ≡ h + 2
+      → next_state (shown sh.workers inside s) (Take v.first j) ≡ Err (Held h)
   held-event s sh k v j h inside at live there empty found =
-      take-refused (shown sh.workers inside s) v.first j h (worker_of_view v) (cell_at s inside j) (worker-lives s sh inside k v at live) (cell-there s sh.workers inside j there) (ap place_held empty) (named-some 2 (turn_of s j) h found)
+      take-refused (shown sh.workers inside s) v.first j h (worker_of_view v) (cell_at s inside j) (worker-lives s sh inside k v at live) (cell-there s sh.workers inside j there) (ap place_held empty) (named-some 2 (lock_of s j) h found)
 
-  take-event : (s : Table T) → (sh : Shows s) → (k : ℕ) (v : View T) (j : ℕ) (m : Bool) (y : Option T) (inside : ℕ → Bool) (c : List (ℕ × Option T)) → Knows s k v → v.first < v.end → j < length s.homes → v.hand ≡ Empty → turn_of s j ≡ bit m
-      → next (shown sh.workers (placed inside j true) s) (Take v.first j) ≡ Ok (shown sh.workers (placed inside j true) (stepped s (3 * j + 1) (v.first + 2) k c (with_take v j m) (takes j y)))
+  take-event : (s : Table T) → (sh : Shows s) → (k : ℕ) (v : View T) (j : ℕ) (m : Bool) (y : Option T) (inside : ℕ → Bool) (c : List (ℕ × Option T)) → Knows s k v → v.first < v.end → j < length s.homes → v.hand ≡ Empty → lock_of s j ≡ bit m
+      → next_state (shown sh.workers (placed inside j true) s) (Take v.first j) ≡ Ok (shown sh.workers (placed inside j true) (stepped s (3 * j + 1) (v.first + 2) k c (with_take v j m) (takes j y)))
   take-event s sh k v j m y inside c at live there empty free =
       let n : ℕ = v.first in
       let filled : ℕ → Bool = placed inside j true in
@@ -182,103 +182,103 @@ module _ {T : Type 0} where
       let le : bit m ≤ 1 = bit-le m in
       let word : 3 * j + 1 < length s.words = omega (arith, sh.one_world.words, there) in
       let kept : (b : ℕ) → b ≢ 3 * j + 1 → slice_index t.words b ≡ slice_index s.words b = λ b ne. read-else s.words (3 * j + 1) b (n + 2) ne in
-      let here : turn_of t j ≡ n + 2 = read-here s.words (3 * j + 1) (n + 2) word in
+      let here : lock_of t j ≡ n + 2 = read-here s.words (3 * j + 1) (n + 2) word in
       let claim : (i : ℕ) → claim_of t i ≡ claim_of s i = λ i. kept (3 * i) (λ e. omega arith) in
       let mark : (i : ℕ) → mark_of t i ≡ mark_of s i = λ i. kept (3 * i + 2) (λ e. omega arith) in
       let in_slot : filled j ≡ true = at-place inside j true in
-      let home : (nat_lt (turn_of s j) 2 || filled j) ≡ (nat_lt (turn_of t j) 2 || filled j) = or-true (nat_lt (turn_of s j) 2) (filled j) in_slot ∙ sym (or-true (nat_lt (turn_of t j) 2) (filled j) in_slot) in
-      let new : record it { turn = Some n } ≡ cell_at t filled j =
-      (λ x. record { claim = named 1 (sym (claim j) x); turn = sym (named-some 2 (turn_of t j) n here) x; marked = eqb (sym (mark j) x) 1; home = home x }) in
-      take-next a n j me it (worker-lives s sh filled k v at live) (cell-there s sh.workers filled j there) (ap place_held empty) (named-none 2 (turn_of s j) (omega (arith, free, le)))
+      let home : (nat_lt (lock_of s j) 2 || filled j) ≡ (nat_lt (lock_of t j) 2 || filled j) = or-true (nat_lt (lock_of s j) 2) (filled j) in_slot ∙ sym (or-true (nat_lt (lock_of t j) 2) (filled j) in_slot) in
+      let new : record it { lock = Some n } ≡ cell_at t filled j =
+      (λ x. record { claim = named 1 (sym (claim j) x); lock = sym (named-some 2 (lock_of t j) n here) x; marked = eqb (sym (mark j) x) 1; home = home x }) in
+      take-next a n j me it (worker-lives s sh filled k v at live) (cell-there s sh.workers filled j there) (ap place_held empty) (named-none 2 (lock_of s j) (omega (arith, free, le)))
       ∙ ap (λ z. Ok z)
-      (states-same (with_worker (with_cell a j (record it { turn = Some n })) n (record me { hand = Some j })) (shown sh.workers filled t)
-      (set-listed (cell_at s filled) (cell_at t filled) 0 (length s.homes) j (record it { turn = Some n }) (new ∙ ap (cell_at t filled) (omega arith))
-      (λ i ne. cells-same (claim_of s i) (claim_of t i) (turn_of s i) (turn_of t i) (mark_of s i) (mark_of t i) (filled i) (filled i) (sym (claim i)) (sym (kept (3 * i + 1) (λ e. ne (omega (arith, e))))) (sym (mark i)) refl)
+      (states-same (with_worker (with_cell a j (record it { lock = Some n })) n (record me { hand = Some j })) (shown sh.workers filled t)
+      (set-listed (cell_at s filled) (cell_at t filled) 0 (length s.homes) j (record it { lock = Some n }) (new ∙ ap (cell_at t filled) (omega arith))
+      (λ i ne. cells-same (claim_of s i) (claim_of t i) (lock_of s i) (lock_of t i) (mark_of s i) (mark_of t i) (filled i) (filled i) (sym (claim i)) (sym (kept (3 * i + 1) (λ e. ne (omega (arith, e))))) (sym (mark i)) refl)
       ∙ ap (λ x. listed (cell_at t filled) 0 x) (sym (length-set s.homes j none)))
       (set-listed (worker_at s.views) (worker_at t.views) 0 sh.workers n (record me { hand = Some j })
       (sym (worker-new s sh k v (with_take v j m) at live refl refl) ∙ ap (worker_at t.views) (omega arith))
       (λ i ne. sym (workers-else s.views k v (with_take v j m) at refl i (λ e. ne (omega (arith, e)))))))
 
   bring-event : (s : Table T) → (sh : Shows s) → (k : ℕ) (v : View T) (j : ℕ) (m : Bool) (inside : ℕ → Bool) → Knows s k v → v.first < v.end → v.hand ≡ Holds j m
-      → next (shown sh.workers (placed inside j true) s) (BringOut v.first j) ≡ Ok (shown sh.workers (placed inside j false) s)
+      → next_state (shown sh.workers (placed inside j true) s) (BringOut v.first j) ≡ Ok (shown sh.workers (placed inside j false) s)
   bring-event s sh k v j m inside at live has =
       let n : ℕ = v.first in
       let filled : ℕ → Bool = placed inside j true in
       let out : ℕ → Bool = placed inside j false in
       let a : State = shown sh.workers filled s in
       let it : Cell = cell_at s filled j in
-      let was : turn_of s j ≡ n + 2 = word-of-hand s sh k v j m at has in
+      let was : lock_of s j ≡ n + 2 = word-of-hand s sh k v j m at has in
       let there : j < length s.homes = inside-of-word s sh j n was in
-      let home : it.home ≡ true = or-true (nat_lt (turn_of s j) 2) (filled j) (at-place inside j true) in
-      let gone : false ≡ (nat_lt (turn_of s j) 2 || out j) = sym (or-false (nat_lt (turn_of s j) 2) (out j) (high (turn_of s j) n was) (at-place inside j false)) in
-      let new : record it { home = false } ≡ cell_at s out j = (λ x. record { claim = it.claim; turn = it.turn; marked = it.marked; home = gone x }) in
-      reached a n j (worker_of_view v) it (λ me it. provided (names it.turn n) NotHolder (provided it.home IsOut (Ok (with_cell a j (record it { home = false }))))) (worker-lives s sh filled k v at live) (cell-there s sh.workers filled j there)
-      ∙ passed (names it.turn n) NotHolder (provided it.home IsOut (Ok (with_cell a j (record it { home = false })))) (names-one it.turn n (named-some 2 (turn_of s j) n was))
+      let home : it.home ≡ true = or-true (nat_lt (lock_of s j) 2) (filled j) (at-place inside j true) in
+      let gone : false ≡ (nat_lt (lock_of s j) 2 || out j) = sym (or-false (nat_lt (lock_of s j) 2) (out j) (high (lock_of s j) n was) (at-place inside j false)) in
+      let new : record it { home = false } ≡ cell_at s out j = (λ x. record { claim = it.claim; lock = it.lock; marked = it.marked; home = gone x }) in
+      reached a n j (worker_of_view v) it (λ me it. provided (names it.lock n) NotHolder (provided it.home IsOut (Ok (with_cell a j (record it { home = false }))))) (worker-lives s sh filled k v at live) (cell-there s sh.workers filled j there)
+      ∙ passed (names it.lock n) NotHolder (provided it.home IsOut (Ok (with_cell a j (record it { home = false })))) (names-one it.lock n (named-some 2 (lock_of s j) n was))
       ∙ passed it.home IsOut (Ok (with_cell a j (record it { home = false }))) home
       ∙ ap (λ z. Ok z)
       (states-same (with_cell a j (record it { home = false })) (shown sh.workers out s)
       (set-listed (cell_at s filled) (cell_at s out) 0 (length s.homes) j (record it { home = false }) (new ∙ ap (cell_at s out) (omega arith))
-      (λ i ne. cells-same (claim_of s i) (claim_of s i) (turn_of s i) (turn_of s i) (mark_of s i) (mark_of s i) (filled i) (out i) refl refl refl (off-place inside j i true (λ e. ne (omega (arith, e))) ∙ sym (off-place inside j i false (λ e. ne (omega (arith, e)))))))
+      (λ i ne. cells-same (claim_of s i) (claim_of s i) (lock_of s i) (lock_of s i) (mark_of s i) (mark_of s i) (filled i) (out i) refl refl refl (off-place inside j i true (λ e. ne (omega (arith, e))) ∙ sym (off-place inside j i false (λ e. ne (omega (arith, e)))))))
       refl)
 
   put-event : (s : Table T) → (sh : Shows s) → (k : ℕ) (v : View T) (j : ℕ) (m : Bool) (inside : ℕ → Bool) → Knows s k v → v.first < v.end → v.hand ≡ Holds j m
-      → next (shown sh.workers (placed inside j false) s) (PutBack v.first j) ≡ Ok (shown sh.workers (placed inside j true) s)
+      → next_state (shown sh.workers (placed inside j false) s) (PutBack v.first j) ≡ Ok (shown sh.workers (placed inside j true) s)
   put-event s sh k v j m inside at live has =
       let n : ℕ = v.first in
       let filled : ℕ → Bool = placed inside j true in
       let out : ℕ → Bool = placed inside j false in
       let a : State = shown sh.workers out s in
       let it : Cell = cell_at s out j in
-      let was : turn_of s j ≡ n + 2 = word-of-hand s sh k v j m at has in
+      let was : lock_of s j ≡ n + 2 = word-of-hand s sh k v j m at has in
       let there : j < length s.homes = inside-of-word s sh j n was in
-      let gone : not it.home ≡ true = ap not (or-false (nat_lt (turn_of s j) 2) (out j) (high (turn_of s j) n was) (at-place inside j false)) in
-      let home : true ≡ (nat_lt (turn_of s j) 2 || filled j) = sym (or-true (nat_lt (turn_of s j) 2) (filled j) (at-place inside j true)) in
-      let new : record it { home = true } ≡ cell_at s filled j = (λ x. record { claim = it.claim; turn = it.turn; marked = it.marked; home = home x }) in
-      reached a n j (worker_of_view v) it (λ me it. provided (names it.turn n) NotHolder (provided (not it.home) IsHome (Ok (with_cell a j (record it { home = true }))))) (worker-lives s sh out k v at live) (cell-there s sh.workers out j there)
-      ∙ passed (names it.turn n) NotHolder (provided (not it.home) IsHome (Ok (with_cell a j (record it { home = true })))) (names-one it.turn n (named-some 2 (turn_of s j) n was))
+      let gone : not it.home ≡ true = ap not (or-false (nat_lt (lock_of s j) 2) (out j) (high (lock_of s j) n was) (at-place inside j false)) in
+      let home : true ≡ (nat_lt (lock_of s j) 2 || filled j) = sym (or-true (nat_lt (lock_of s j) 2) (filled j) (at-place inside j true)) in
+      let new : record it { home = true } ≡ cell_at s filled j = (λ x. record { claim = it.claim; lock = it.lock; marked = it.marked; home = home x }) in
+      reached a n j (worker_of_view v) it (λ me it. provided (names it.lock n) NotHolder (provided (not it.home) IsHome (Ok (with_cell a j (record it { home = true }))))) (worker-lives s sh out k v at live) (cell-there s sh.workers out j there)
+      ∙ passed (names it.lock n) NotHolder (provided (not it.home) IsHome (Ok (with_cell a j (record it { home = true })))) (names-one it.lock n (named-some 2 (lock_of s j) n was))
       ∙ passed (not it.home) IsHome (Ok (with_cell a j (record it { home = true }))) gone
       ∙ ap (λ z. Ok z)
       (states-same (with_cell a j (record it { home = true })) (shown sh.workers filled s)
       (set-listed (cell_at s out) (cell_at s filled) 0 (length s.homes) j (record it { home = true }) (new ∙ ap (cell_at s filled) (omega arith))
-      (λ i ne. cells-same (claim_of s i) (claim_of s i) (turn_of s i) (turn_of s i) (mark_of s i) (mark_of s i) (out i) (filled i) refl refl refl (off-place inside j i false (λ e. ne (omega (arith, e))) ∙ sym (off-place inside j i true (λ e. ne (omega (arith, e)))))))
+      (λ i ne. cells-same (claim_of s i) (claim_of s i) (lock_of s i) (lock_of s i) (mark_of s i) (mark_of s i) (out i) (filled i) refl refl refl (off-place inside j i false (λ e. ne (omega (arith, e))) ∙ sym (off-place inside j i true (λ e. ne (omega (arith, e)))))))
       refl)
 
   mark-event : (s : Table T) → (sh : Shows s) → (k : ℕ) (v : View T) (j : ℕ) (m : Bool) (inside : ℕ → Bool) (c : List (ℕ × Option T)) → Knows s k v → v.first < v.end → v.hand ≡ Holds j m → 0 < claiming v.first j v → marking j v ≡ 0
-      → next (shown sh.workers (placed inside j false) s) (Mark v.first j) ≡ Ok (shown sh.workers (placed inside j false) (stepped s (3 * j + 2) 1 k c (with_mark v j) keeps))
+      → next_state (shown sh.workers (placed inside j false) s) (Mark v.first j) ≡ Ok (shown sh.workers (placed inside j false) (stepped s (3 * j + 2) 1 k c (with_mark v j) keeps))
   mark-event s sh k v j m inside c at live has mine nil =
       let n : ℕ = v.first in
       let out : ℕ → Bool = placed inside j false in
       let a : State = shown sh.workers out s in
       let t : Table T = stepped s (3 * j + 2) 1 k c (with_mark v j) keeps in
       let it : Cell = cell_at s out j in
-      let was : turn_of s j ≡ n + 2 = word-of-hand s sh k v j m at has in
+      let was : lock_of s j ≡ n + 2 = word-of-hand s sh k v j m at has in
       let there : j < length s.homes = inside-of-word s sh j n was in
       let word : 3 * j + 2 < length s.words = omega (arith, sh.one_world.words, there) in
       let kept : (b : ℕ) → b ≢ 3 * j + 2 → slice_index t.words b ≡ slice_index s.words b = λ b ne. read-else s.words (3 * j + 2) b 1 ne in
       let here : mark_of t j ≡ 1 = read-here s.words (3 * j + 2) 1 word in
       let claim : (i : ℕ) → claim_of t i ≡ claim_of s i = λ i. kept (3 * i) (λ e. omega arith) in
-      let turn : (i : ℕ) → turn_of t i ≡ turn_of s i = λ i. kept (3 * i + 1) (λ e. omega arith) in
-      let gone : not it.home ≡ true = ap not (or-false (nat_lt (turn_of s j) 2) (out j) (high (turn_of s j) n was) (at-place inside j false)) in
+      let lock : (i : ℕ) → lock_of t i ≡ lock_of s i = λ i. kept (3 * i + 1) (λ e. omega arith) in
+      let gone : not it.home ≡ true = ap not (or-false (nat_lt (lock_of s j) 2) (out j) (high (lock_of s j) n was) (at-place inside j false)) in
       let clear : not it.marked ≡ true = ap (λ x. not (eqb x 1)) (not-yet s sh k v j at mine nil) in
       let set : true ≡ eqb (mark_of t j) 1 = sym (eq-eqb (mark_of t j) 1 here) in
       let hand : place_held (Holds j true) ≡ place_held v.hand = ap place_held (sym has) in
       let same : worker_of_view (with_mark v j) ≡ worker_of_view v = (λ x. record { first = v.first; end = v.end; hand = hand x }) in
       let new : record it { marked = true } ≡ cell_at t out j =
-      (λ x. record { claim = named 1 (sym (claim j) x); turn = named 2 (sym (turn j) x); marked = set x; home = nat_lt (sym (turn j) x) 2 || out j }) in
+      (λ x. record { claim = named 1 (sym (claim j) x); lock = named 2 (sym (lock j) x); marked = set x; home = nat_lt (sym (lock j) x) 2 || out j }) in
       let done : Result State Refused = Ok (with_cell a j (record it { marked = true })) in
-      reached a n j (worker_of_view v) it (λ me it. provided (names it.turn n) NotHolder (provided (not it.home) IsHome (provided (names it.claim n) NotClaimant (provided (not it.marked) Marked (Ok (with_cell a j (record it { marked = true }))))))) (worker-lives s sh out k v at live) (cell-there s sh.workers out j there)
-      ∙ passed (names it.turn n) NotHolder (provided (not it.home) IsHome (provided (names it.claim n) NotClaimant (provided (not it.marked) Marked done))) (names-one it.turn n (named-some 2 (turn_of s j) n was))
+      reached a n j (worker_of_view v) it (λ me it. provided (names it.lock n) NotHolder (provided (not it.home) IsHome (provided (names it.claim n) NotClaimant (provided (not it.marked) Marked (Ok (with_cell a j (record it { marked = true }))))))) (worker-lives s sh out k v at live) (cell-there s sh.workers out j there)
+      ∙ passed (names it.lock n) NotHolder (provided (not it.home) IsHome (provided (names it.claim n) NotClaimant (provided (not it.marked) Marked done))) (names-one it.lock n (named-some 2 (lock_of s j) n was))
       ∙ passed (not it.home) IsHome (provided (names it.claim n) NotClaimant (provided (not it.marked) Marked done)) gone
       ∙ passed (names it.claim n) NotClaimant (provided (not it.marked) Marked done) (names-one it.claim n (named-some 1 (claim_of s j) n (own-claim s sh k v n j at mine)))
       ∙ passed (not it.marked) Marked done clear
       ∙ ap (λ z. Ok z)
       (states-same (with_cell a j (record it { marked = true })) (shown sh.workers out t)
       (set-listed (cell_at s out) (cell_at t out) 0 (length s.homes) j (record it { marked = true }) (new ∙ ap (cell_at t out) (omega arith))
-      (λ i ne. cells-same (claim_of s i) (claim_of t i) (turn_of s i) (turn_of t i) (mark_of s i) (mark_of t i) (out i) (out i) (sym (claim i)) (sym (turn i)) (sym (kept (3 * i + 2) (λ e. ne (omega (arith, e))))) refl))
+      (λ i ne. cells-same (claim_of s i) (claim_of t i) (lock_of s i) (lock_of t i) (mark_of s i) (mark_of t i) (out i) (out i) (sym (claim i)) (sym (lock i)) (sym (kept (3 * i + 2) (λ e. ne (omega (arith, e))))) refl))
       (same-listed (worker_at s.views) (worker_at t.views) 0 sh.workers (λ i le. sym (workers-same s.views k v (with_mark v j) at same i))))
 
   free-event : (s : Table T) → (sh : Shows s) → (k : ℕ) (v : View T) (j : ℕ) (m : Bool) (y : Option T) (inside : ℕ → Bool) (c : List (ℕ × Option T)) → Knows s k v → v.first < v.end → v.hand ≡ Holds j m
-      → next (shown sh.workers (placed inside j true) s) (Free v.first j) ≡ Ok (shown sh.workers (placed inside j true) (stepped s (3 * j + 1) (bit m) k ((j, y) ∷ c) (with_no_hand v) gives))
+      → next_state (shown sh.workers (placed inside j true) s) (Free v.first j) ≡ Ok (shown sh.workers (placed inside j true) (stepped s (3 * j + 1) (bit m) k ((j, y) ∷ c) (with_no_hand v) gives))
   free-event s sh k v j m y inside c at live has =
       let n : ℕ = v.first in
       let filled : ℕ → Bool = placed inside j true in
@@ -287,26 +287,26 @@ module _ {T : Type 0} where
       let it : Cell = cell_at s filled j in
       let me : Worker = worker_of_view v in
       let le : bit m ≤ 1 = bit-le m in
-      let was : turn_of s j ≡ n + 2 = word-of-hand s sh k v j m at has in
+      let was : lock_of s j ≡ n + 2 = word-of-hand s sh k v j m at has in
       let there : j < length s.homes = inside-of-word s sh j n was in
       let word : 3 * j + 1 < length s.words = omega (arith, sh.one_world.words, there) in
       let kept : (b : ℕ) → b ≢ 3 * j + 1 → slice_index t.words b ≡ slice_index s.words b = λ b ne. read-else s.words (3 * j + 1) b (bit m) ne in
-      let here : turn_of t j ≡ bit m = read-here s.words (3 * j + 1) (bit m) word in
+      let here : lock_of t j ≡ bit m = read-here s.words (3 * j + 1) (bit m) word in
       let claim : (i : ℕ) → claim_of t i ≡ claim_of s i = λ i. kept (3 * i) (λ e. omega arith) in
       let mark : (i : ℕ) → mark_of t i ≡ mark_of s i = λ i. kept (3 * i + 2) (λ e. omega arith) in
       let in_slot : filled j ≡ true = at-place inside j true in
-      let full : it.home ≡ true = or-true (nat_lt (turn_of s j) 2) (filled j) in_slot in
-      let home : it.home ≡ (nat_lt (turn_of t j) 2 || filled j) = full ∙ sym (or-true (nat_lt (turn_of t j) 2) (filled j) in_slot) in
-      let new : record it { turn = None } ≡ cell_at t filled j =
-      (λ x. record { claim = named 1 (sym (claim j) x); turn = sym (named-none 2 (turn_of t j) (omega (arith, here, le))) x; marked = eqb (sym (mark j) x) 1; home = home x }) in
-      let after : Worker → Cell → Result State Refused = λ me it. Ok (with_worker (with_cell a j (record it { turn = None })) n (record me { hand = None })) in
-      reached a n j me it (λ me it. provided (names it.turn n) NotHolder (provided it.home IsOut (after me it))) (worker-lives s sh filled k v at live) (cell-there s sh.workers filled j there)
-      ∙ passed (names it.turn n) NotHolder (provided it.home IsOut (after me it)) (names-one it.turn n (named-some 2 (turn_of s j) n was))
+      let full : it.home ≡ true = or-true (nat_lt (lock_of s j) 2) (filled j) in_slot in
+      let home : it.home ≡ (nat_lt (lock_of t j) 2 || filled j) = full ∙ sym (or-true (nat_lt (lock_of t j) 2) (filled j) in_slot) in
+      let new : record it { lock = None } ≡ cell_at t filled j =
+      (λ x. record { claim = named 1 (sym (claim j) x); lock = sym (named-none 2 (lock_of t j) (omega (arith, here, le))) x; marked = eqb (sym (mark j) x) 1; home = home x }) in
+      let after : Worker → Cell → Result State Refused = λ me it. Ok (with_worker (with_cell a j (record it { lock = None })) n (record me { hand = None })) in
+      reached a n j me it (λ me it. provided (names it.lock n) NotHolder (provided it.home IsOut (after me it))) (worker-lives s sh filled k v at live) (cell-there s sh.workers filled j there)
+      ∙ passed (names it.lock n) NotHolder (provided it.home IsOut (after me it)) (names-one it.lock n (named-some 2 (lock_of s j) n was))
       ∙ passed it.home IsOut (after me it) full
       ∙ ap (λ z. Ok z)
-      (states-same (with_worker (with_cell a j (record it { turn = None })) n (record me { hand = None })) (shown sh.workers filled t)
-      (set-listed (cell_at s filled) (cell_at t filled) 0 (length s.homes) j (record it { turn = None }) (new ∙ ap (cell_at t filled) (omega arith))
-      (λ i ne. cells-same (claim_of s i) (claim_of t i) (turn_of s i) (turn_of t i) (mark_of s i) (mark_of t i) (filled i) (filled i) (sym (claim i)) (sym (kept (3 * i + 1) (λ e. ne (omega (arith, e))))) (sym (mark i)) refl)
+      (states-same (with_worker (with_cell a j (record it { lock = None })) n (record me { hand = None })) (shown sh.workers filled t)
+      (set-listed (cell_at s filled) (cell_at t filled) 0 (length s.homes) j (record it { lock = None }) (new ∙ ap (cell_at t filled) (omega arith))
+      (λ i ne. cells-same (claim_of s i) (claim_of t i) (lock_of s i) (lock_of t i) (mark_of s i) (mark_of t i) (filled i) (filled i) (sym (claim i)) (sym (kept (3 * i + 1) (λ e. ne (omega (arith, e))))) (sym (mark i)) refl)
       ∙ ap (λ x. listed (cell_at t filled) 0 x) (sym (length-set s.homes j (some y))))
       (set-listed (worker_at s.views) (worker_at t.views) 0 sh.workers n (record me { hand = None })
       (sym (worker-new s sh k v (with_no_hand v) at live refl refl) ∙ ap (worker_at t.views) (omega arith))
@@ -347,7 +347,7 @@ module _ {T : Type 0} where
       (at_set s.views k j w u bt)))
 
   split-event : (s : Table T) → (sh : Shows s) → (k : ℕ) (v : View T) (x : ℕ) (inside : ℕ → Bool) → Knows s k v → v.first < x → x < v.end
-      → next (shown sh.workers inside s) (Split v.first x) ≡ Ok (shown sh.workers inside (with_views s (slice_set s.views k (lower x v) ++ upper x v ∷ [])))
+      → next_state (shown sh.workers inside s) (Split v.first x) ≡ Ok (shown sh.workers inside (with_views s (slice_set s.views k (lower x v) ++ upper x v ∷ [])))
   split-event s sh k v x inside at above below =
       let n : ℕ = v.first in
       let a : State = shown sh.workers inside s in
@@ -374,7 +374,7 @@ module _ {T : Type 0} where
       (λ i ne. sym (last-off cut i (upper x v) (λ e. ne (omega (arith, e)))))))
 
   join-event : (s : Table T) → (sh : Shows s) → (k other : ℕ) (v w : View T) (inside : ℕ → Bool) → Knows s k v → Knows s other w → other ≢ k → v.first < v.end → w.first < w.end → w.first ≡ v.end → w.hand ≡ Empty
-      → next (shown sh.workers inside s) (Join v.first w.first) ≡ Ok (shown sh.workers inside (with_views s (slice_set (slice_set s.views k (joined v w)) other nobody)))
+      → next_state (shown sh.workers inside s) (Join v.first w.first) ≡ Ok (shown sh.workers inside (with_views s (slice_set (slice_set s.views k (joined v w)) other nobody)))
   join-event s sh k other v w inside at bt apart live alive follows empty =
       let n : ℕ = v.first in
       let a : State = shown sh.workers inside s in
@@ -414,18 +414,18 @@ module _ {T : Type 0} where
       ∙ states-same (shown workers inside record { words = s.words; homes = s.homes; views = slice_set s.views k w }) (shown workers inside s) refl
       (same-listed (worker_at (slice_set s.views k w)) (worker_at s.views) 0 workers (λ i le. workers-same s.views k v w at same i))
 
-  -- where the turn is free, the value is at home whatever the slots out with seats say
-  home-shown : (s : Table T) (workers j : ℕ) (inside : ℕ → Bool) → turn_of s j < 2 → shown workers inside s ≡ shown workers (placed inside j true) s
+  -- where the lock is free, the value is at home whatever the slots out with seats say
+  home-shown : (s : Table T) (workers j : ℕ) (inside : ℕ → Bool) → lock_of s j < 2 → shown workers inside s ≡ shown workers (placed inside j true) s
   home-shown s workers j inside free =
       states-same (shown workers inside s) (shown workers (placed inside j true) s)
       (same-listed (cell_at s inside) (cell_at s (placed inside j true)) 0 (length s.homes)
       (λ i le. dite (ℕ_discrete i j)
-      (λ e. λ x. record { claim = named 1 (claim_of s i); turn = named 2 (turn_of s i); marked = eqb (mark_of s i) 1; home = at-home i (subst (λ n. turn_of s n < 2) (sym e) free) x })
-      (λ ne. cells-same (claim_of s i) (claim_of s i) (turn_of s i) (turn_of s i) (mark_of s i) (mark_of s i) (inside i) (placed inside j true i) refl refl refl (sym (off-place inside j i true ne)))))
+      (λ e. λ x. record { claim = named 1 (claim_of s i); lock = named 2 (lock_of s i); marked = eqb (mark_of s i) 1; home = at-home i (subst (λ n. lock_of s n < 2) (sym e) free) x })
+      (λ ne. cells-same (claim_of s i) (claim_of s i) (lock_of s i) (lock_of s i) (mark_of s i) (mark_of s i) (inside i) (placed inside j true i) refl refl refl (sym (off-place inside j i true ne)))))
       refl
     where
-      at-home : (i : ℕ) → turn_of s i < 2 → (nat_lt (turn_of s i) 2 || inside i) ≡ (nat_lt (turn_of s i) 2 || placed inside j true i)
-      at-home i low = let low_test : nat_lt (turn_of s i) 2 ≡ true = grind (arith, nat_tests) in true-or (nat_lt (turn_of s i) 2) (inside i) (placed inside j true i) low_test
+      at-home : (i : ℕ) → lock_of s i < 2 → (nat_lt (lock_of s i) 2 || inside i) ≡ (nat_lt (lock_of s i) 2 || placed inside j true i)
+      at-home i low = let low_test : nat_lt (lock_of s i) 2 ≡ true = grind (arith, nat_tests) in true-or (nat_lt (lock_of s i) 2) (inside i) (placed inside j true i) low_test
 
   pub events : (s : Table T) → (sh : Shows s) → StepsAreEvents s sh.workers
   events s sh =
@@ -435,8 +435,9 @@ module _ {T : Type 0} where
           claimed-event s sh k v i by inside at live there found,
           still-shown s sh.workers k (3 * i) (by + 1) v (with_seen v i by) inside c at found refl,
         );
+        unclaimed = λ k v i inside c at found. still-shown s sh.workers k (3 * i) 0 v v inside c at found refl;
         take = λ k v j m t inside c at live there empty free.
-            ap (λ a. next a (Take v.first j)) (home-shown s sh.workers j inside (let le : bit m ≤ 1 = bit-le m in omega (arith, free, le)))
+            ap (λ a. next_state a (Take v.first j)) (home-shown s sh.workers j inside (let le : bit m ≤ 1 = bit-le m in omega (arith, free, le)))
             ∙ take-event s sh k v j m (Some t) inside c at live there empty free;
         held = λ k v j h inside c at live there empty found. (
           held-event s sh k v j h inside at live there empty found,
@@ -454,7 +455,7 @@ module _ {T : Type 0} where
       }
     where
       freed-low : (s : Table T) → (sh : Shows s) → (k : ℕ) (v : View T) (j : ℕ) (m : Bool) (t : T) → Knows s k v → v.hand ≡ Holds j m
-          → turn_of (stepped s (3 * j + 1) (bit m) k ((j, Some t) ∷ []) (with_no_hand v) gives) j < 2
+          → lock_of (stepped s (3 * j + 1) (bit m) k ((j, Some t) ∷ []) (with_no_hand v) gives) j < 2
       freed-low s sh k v j m t at has =
           let there : j < length s.homes = inside-of-word s sh j v.first (word-of-hand s sh k v j m at has) in
           let le : bit m ≤ 1 = bit-le m in
@@ -492,7 +493,7 @@ module _ {T : Type 0} where
   pub begins : (world goal : List T) (workers : ℕ) → 1 ≤ workers → BeginsAsMachine world goal workers
   begins world goal workers some_workers inside =
       let s : Table T = opening (replicate (3 * length world) 0) (map Some world) (opening_view world goal workers) in
-      states-same (shown workers inside s) (start (length world) workers)
+      states-same (shown workers inside s) (first_state (length world) workers)
       (all-one (cell_at s inside) untouched 0 (length s.homes) (untouched-at world goal workers inside)
       ∙ ap (λ n. replicate n untouched) (length-map (map Some world) some ∙ length-map world Some))
       (first-workers world goal workers some_workers)

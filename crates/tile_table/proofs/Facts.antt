@@ -10,7 +10,7 @@ use Rattle.tile_table.specs.declared.view.Hand.{Hand}
 use Rattle.tile_table.specs.declared.view.Hand.TheVariants.{Empty, Holds}
 use Rattle.tile_table.specs.Counts.{bit, same, total}
 use Rattle.tile_table.specs.Views.{tiles_by, held, nobody, covering, claiming, taking, marking, holding, IsAnother}
-use Rattle.tile_table.specs.Shows.{Table, Shows, Knows, claim_of, turn_of, mark_of}
+use Rattle.tile_table.specs.Shows.{Table, Shows, Knows, claim_of, lock_of, mark_of}
 use Rattle.tile_table.proofs.Bits.{bit-le, same-eq, same-some, both-some, within, outside, below-some}
 use Rattle.tile_table.proofs.Sums.{total-has, total-two, total-some, one-view, has-length}
 
@@ -70,11 +70,11 @@ module _ {T : Type 0} where
       (λ ne. let t = total-some (marking j) s.views (omega (arith, sh.marks.marks j)) in
       absurd (marked-by s sh k v j at mine nil t.0 t.1 t.2 t.3))
 
-  -- the seat that a turn word names, as another seat with empty hands finds it
-  pub another : (s : Table T) → Shows s → (k : ℕ) (v : View T) (j h : ℕ) → Knows s k v → v.first < v.end → v.hand ≡ Empty → turn_of s j ≡ h + 2
+  -- the seat that a lock word names, as another seat with empty hands finds it
+  pub another : (s : Table T) → Shows s → (k : ℕ) (v : View T) (j h : ℕ) → Knows s k v → v.first < v.end → v.hand ≡ Empty → lock_of s j ≡ h + 2
       → IsAnother h v × (0 < total (taking h j) s.views)
   another s sh k v j h at live empty word =
-      let one : total (holding h j) s.views ≡ 1 = sh.turns.holders h j ∙ same-eq (turn_of s j) (h + 2) word in
+      let one : total (holding h j) s.views ≡ 1 = sh.locks.holders h j ∙ same-eq (lock_of s j) (h + 2) word in
       let t = total-some (holding h j) s.views (omega arith) in
       let i = t.0 in let u = t.1 in let bt = t.2 in
       let its = held-some h j u.first u.hand t.3 in
@@ -89,7 +89,7 @@ module _ {T : Type 0} where
       let pos : 0 < held h j u.first u.hand = t.3 in omega arith in
       let le : bit (nat_lt h sh.workers) ≤ 1 = bit-le (nat_lt h sh.workers) in
       let mine : covering h v ≡ 0 = omega (arith, total-two (covering h) s.views k i v u at bt apart, sh.one_world.ranges h) in
-      let took : 0 < taking u.first j u = sh.turns.taken i u j its.0 bt its.2 in
+      let took : 0 < taking u.first j u = sh.locks.taken i u j its.0 bt its.2 in
       let took' : 0 < taking h j u = subst (λ n. 0 < taking n j u) number took in (
         (subst (λ n. h < n) (sym (sh.one_world.worlds k v at live).2) all, outside v.first h v.end mine),
         omega (arith, total-has (taking h j) s.views i u bt),
@@ -101,8 +101,8 @@ module _ {T : Type 0} where
   tile-there s sh k v j true at live h = has-length v.goal j (omega (arith, ap length (sh.one_world.worlds k v at live).1, sh.one_world.goal_places))
   tile-there s sh k v j false at live h = has-length v.world j (omega (arith, ap length (sh.one_world.worlds k v at live).0, sh.one_world.world_places))
 
-  -- and at home where its turn is free
-  pub tile-home : (s : Table T) → (sh : Shows s) → (k : ℕ) (v : View T) (j : ℕ) (m : Bool) (t : T) → Knows s k v → v.first < v.end → turn_of s j ≡ bit m
+  -- and at home where its lock is free
+  pub tile-home : (s : Table T) → (sh : Shows s) → (k : ℕ) (v : View T) (j : ℕ) (m : Bool) (t : T) → Knows s k v → v.first < v.end → lock_of s j ≡ bit m
       → At (tiles_by m v.world v.goal) j t → At (tiles_by m sh.world sh.goal) j t
   tile-home s sh k v j m t at live word stands =
       let w = sh.one_world.worlds k v at live in

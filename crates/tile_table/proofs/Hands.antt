@@ -4,7 +4,7 @@ use Rattle.tile_table.specs.declared.view.View.{View}
 use Rattle.tile_table.specs.declared.view.Hand.{Hand}
 use Rattle.tile_table.specs.declared.view.Hand.TheVariants.{Empty, Holds}
 use Rattle.tile_table.specs.Views.{held, holding}
-use Rattle.tile_table.specs.Shows.{Table, Shows, Knows, turn_of}
+use Rattle.tile_table.specs.Shows.{Table, Shows, Knows, lock_of}
 use Rattle.tile_table.proofs.Bits.{both-eq, same-some}
 use Rattle.tile_table.proofs.Sums.{total-has}
 use Rattle.tile_table.proofs.Words.{is-there}
@@ -31,13 +31,13 @@ pub not-empty : (j : ℕ) (m : Bool) → Empty ≡ Holds j m → ⊥
 not-empty j m e = let g : grip Empty ≡ grip (Holds j m) = ap grip e in let h : 0 ≡ 1 = g in omega arith
 
 module _ {T : Type 0} where
-  -- the turn word of a place in hand
-  pub word-of-hand : (s : Table T) → Shows s → (k : ℕ) (v : View T) (j : ℕ) (m : Bool) → Knows s k v → v.hand ≡ Holds j m → turn_of s j ≡ v.first + 2
+  -- the lock word of a place in hand
+  pub word-of-hand : (s : Table T) → Shows s → (k : ℕ) (v : View T) (j : ℕ) (m : Bool) → Knows s k v → v.hand ≡ Holds j m → lock_of s j ≡ v.first + 2
   word-of-hand s sh k v j m at hand =
       let h : held v.first j v.first v.hand ≡ held v.first j v.first (Holds j m) = ap (held v.first j v.first) hand in
       let one : holding v.first j v ≡ 1 = h ∙ both-eq v.first j v.first j refl refl in
-      same-some (turn_of s j) (v.first + 2) (omega (arith, one, total-has (holding v.first j) s.views k v at, sh.turns.holders v.first j))
+      same-some (lock_of s j) (v.first + 2) (omega (arith, one, total-has (holding v.first j) s.views k v at, sh.locks.holders v.first j))
 
   -- the place is one of the table
-  pub inside-of-word : (s : Table T) → Shows s → (j x : ℕ) → turn_of s j ≡ x + 2 → j < length s.homes
+  pub inside-of-word : (s : Table T) → Shows s → (j x : ℕ) → lock_of s j ≡ x + 2 → j < length s.homes
   inside-of-word s sh j x e = omega (arith, is-there s.words (3 * j + 1) (omega (arith, e)), sh.one_world.words)

@@ -1,4 +1,4 @@
--- what a table holds at its end, when one seat has all the numbers and holds no turn
+-- what a table holds at its end, when one seat has all the numbers and holds no lock
 use Rattle.std.proofs.Common.{◌≡◌, ℕ, zero, suc, ◌+◌, ◌-◌, ◌*◌, ◌<◌, ◌≤◌, ◌≢◌, ◌⊎◌, inl, inr, ⊎_elim, List, [], ◌∷◌, ◌++◌, length, refl, ap, sym, ◌∙◌, subst, eqb, nat_lt, arith}
 use Rattle.std.specs.Prelude.{Option, Some, None, slice_index}
 use Rattle.std.proofs.lemmas.Bool.Decides.{nat_tests}
@@ -11,9 +11,9 @@ use Rattle.tile_machine.specs.At.{At}
 use Rattle.tile_table.specs.declared.view.View.{View}
 use Rattle.tile_table.specs.declared.view.Hand.TheVariants.{Empty}
 use Rattle.tile_table.specs.declared.seat.Closed.{Closed}
-use Rattle.tile_table.specs.Counts.{bit, times, total}
+use Rattle.tile_table.specs.Counts.{bit, times_in, total}
 use Rattle.tile_table.specs.Views.{tiles_by, held, nobody, covering, marking, holding}
-use Rattle.tile_table.specs.Shows.{Table, Shows, Knows, turn_of, mark_of}
+use Rattle.tile_table.specs.Shows.{Table, Shows, Knows, lock_of, mark_of}
 use Rattle.tile_table.proofs.Bits.{same-eq, within, below-some}
 use Rattle.tile_table.proofs.Sums.{total-has}
 use Rattle.tile_table.proofs.Facts.{one-seat, tile-there, tile-home}
@@ -63,21 +63,21 @@ module _ {T : Type 0} where
   pub closes-at : (words : List ℕ) (slots : List (Option T)) (id : ℕ) (v : View T) → Final (Seen Shows id v) words slots
       → v.first < v.end → v.first ≡ 0 → v.end ≡ v.all → v.hand ≡ Empty
       → (i n : ℕ) → i < length v.world → get_elem? words (3 * i + 2) ≡ some n
-      → (eqb n 1 ≡ nat_lt 0 (times i v.marks)) × ((t : T) × At (tiles_by (eqb n 1) v.world v.goal) i t × (get_elem? slots i ≡ some (Some t)))
+      → (eqb n 1 ≡ nat_lt 0 (times_in i v.marks)) × ((t : T) × At (tiles_by (eqb n 1) v.world v.goal) i t × (get_elem? slots i ≡ some (Some t)))
   closes-at words slots id v final live first all empty i n inside read =
       let s = final.0 in let sh = final.1.0 in let at = final.1.1 in
       let others = alone s sh id v at live first all in
       let sum : (f : View T → ℕ) → f nobody ≡ 0 → total f s.views ≡ f v = λ f z. total-only f s.views id v at (λ j u bt ne. ap f (others j u bt ne) ∙ z) in
       let mark : mark_of s i ≡ n = ap (λ ws. slice_index ws (3 * i + 2)) final.2 ∙ index-of words (3 * i + 2) n read in
-      let marks : n ≡ times i v.marks = sym mark ∙ sym (sh.marks.marks i) ∙ sum (marking i) refl in
+      let marks : n ≡ times_in i v.marks = sym mark ∙ sym (sh.marks.marks i) ∙ sum (marking i) refl in
       let small : n ≤ 1 = omega (arith, mark, sh.marks.once i) in
-      let free : turn_of s i < 2 =
-      dite (dec_lt (turn_of s i) 2) (λ h. h)
-      (λ ne. absurd (omega (arith, sh.turns.holders (turn_of s i - 2) i, sum (holding (turn_of s i - 2) i) refl, ap (held (turn_of s i - 2) i v.first) empty, same-eq (turn_of s i) (turn_of s i - 2 + 2) (omega arith)))) in
-      let word : turn_of s i ≡ bit (eqb n 1) = sh.marks.free i free ∙ mark ∙ bit-eq n small in
+      let free : lock_of s i < 2 =
+      dite (dec_lt (lock_of s i) 2) (λ h. h)
+      (λ ne. absurd (omega (arith, sh.locks.holders (lock_of s i - 2) i, sum (holding (lock_of s i - 2) i) refl, ap (held (lock_of s i - 2) i v.first) empty, same-eq (lock_of s i) (lock_of s i - 2 + 2) (omega arith)))) in
+      let word : lock_of s i ≡ bit (eqb n 1) = sh.marks.free i free ∙ mark ∙ bit-eq n small in
       let place : i < length s.homes = omega (arith, inside, ap length (sh.one_world.worlds id v at live).0, sh.one_world.world_places) in
       let t = tile-there s sh id v i (eqb n 1) at live place in (
-        marked-test n (times i v.marks) marks small,
+        marked-test n (times_in i v.marks) marks small,
         (t.0, t.1, final.4 i (Some t.0) (sh.homes i (eqb n 1) t.0 word (tile-home s sh id v i (eqb n 1) t.0 at live word t.1))),
       )
 
@@ -92,7 +92,7 @@ module _ {T : Type 0} where
 module _ {X T Q : Type 0} where
   -- the tiles so far are those of a table's end
   pub record ClosedSoFar (v : View T) (tiles : List (Closed X T Q)) : Type 0 where
-    pub done : (i : ℕ) (c : Closed X T Q) → At tiles i c → c.done ≡ nat_lt 0 (times i v.marks)
+    pub done : (i : ℕ) (c : Closed X T Q) → At tiles i c → c.done ≡ nat_lt 0 (times_in i v.marks)
     pub stands : (i : ℕ) (c : Closed X T Q) → At tiles i c → At (tiles_by c.done v.world v.goal) i c.tile
 
   pub none-closed : (v : View T) (tiles : List (Closed X T Q)) → tiles ≡ [] → ClosedSoFar v tiles
@@ -101,13 +101,13 @@ module _ {X T Q : Type 0} where
       record { done = λ i c at. absurd (some-ne-none c (sym at)); stands = λ i c at. absurd (some-ne-none c (sym at)) }
 
   pub one-more-closed : (v : View T) (tiles : List (Closed X T Q)) (c : Closed X T Q) → ClosedSoFar v tiles
-      → c.done ≡ nat_lt 0 (times (length tiles) v.marks) → At (tiles_by c.done v.world v.goal) (length tiles) c.tile
+      → c.done ≡ nat_lt 0 (times_in (length tiles) v.marks) → At (tiles_by c.done v.world v.goal) (length tiles) c.tile
       → ClosedSoFar v (tiles ++ c ∷ [])
   one-more-closed v tiles c so done stands =
       record {
         done =
             λ i d at. ⊎_elim (λ t. so.done i d t)
-            (λ t. subst (λ x. x.done ≡ nat_lt 0 (times i v.marks)) t.1 (subst (λ n. c.done ≡ nat_lt 0 (times n v.marks)) (sym t.0) done))
+            (λ t. subst (λ x. x.done ≡ nat_lt 0 (times_in i v.marks)) t.1 (subst (λ n. c.done ≡ nat_lt 0 (times_in n v.marks)) (sym t.0) done))
             (at-snoc tiles c d i at);
         stands =
             λ i d at. ⊎_elim (λ t. so.stands i d t)

@@ -17,3 +17,4 @@ pub mod Sums
 pub mod Taking
 pub mod Told
 pub mod Words
+pub mod Staying

@@ -7,7 +7,7 @@ use Rattle.tile_machine.specs.At.{At}
 use Rattle.tile_table.specs.declared.view.View.{View}
 use Rattle.tile_table.specs.declared.view.Hand.{Hand}
 use Rattle.tile_table.specs.declared.view.Hand.TheVariants.{Holds}
-use Rattle.tile_table.specs.Counts.{bit, same, times, pairs, total}
+use Rattle.tile_table.specs.Counts.{bit, same, times_in, pairs_in, total}
 use Rattle.tile_table.specs.Views.{tiles_by, nobody, covering, claiming, taking, marking, holding}
 use Rattle.tile_table.specs.Shows.{Table, Shows, Knows, claim_of, mark_of}
 use Rattle.tile_table.proofs.Sums.{total-set, total-same, each-set}
@@ -58,10 +58,10 @@ module _ {T : Type 0} where
               ranges = λ x. total-same (covering x) s.views k v w at refl ∙ o.ranges x;
               ended = each-set (λ j u. u.end ≤ u.first → u ≡ nobody) s.views k w (λ e. absurd (omega (arith, live, e))) (λ j u bt ne. o.ended j u bt);
             };
-        turns =
+        locks =
             record {
               holders = λ n i. omega (arith, total-set (holding n i) s.views k v w at, keep.holders n i);
-              taken = λ j u i m bt. each-set (λ j u. (i : ℕ) (m : Bool) → u.hand ≡ Holds i m → 0 < taking u.first i u) s.views k w keep.taken (λ j u bt ne i m e. sh.turns.taken j u i m bt e) j u bt i m;
+              taken = λ j u i m bt. each-set (λ j u. (i : ℕ) (m : Bool) → u.hand ≡ Holds i m → 0 < taking u.first i u) s.views k w keep.taken (λ j u bt ne i m e. sh.locks.taken j u i m bt e) j u bt i m;
             };
         claims = λ n i. omega (arith, total-set (claiming n i) s.views k v w at, keep.claims n i);
         marks =
@@ -75,10 +75,10 @@ module _ {T : Type 0} where
         homes = keep.homes;
         reads =
             record {
-              known = λ j u i bt. each-set (λ j u. (i : ℕ) → 0 < times i u.known → slice_index ws (3 * i + 2) ≡ 1) s.views k w (λ i h. keep.marks_stay i (sh.reads.known k v i at h)) (λ j u bt ne i h. keep.marks_stay i (sh.reads.known j u i bt h)) j u bt i;
-              seen = λ j u i by bt. each-set (λ j u. (i by : ℕ) → 0 < pairs i by u.seen → slice_index ws (3 * i) ≡ by + 1) s.views k w (λ i by h. keep.claims_stay by i (sh.reads.seen k v i by at h)) (λ j u bt ne i by h. keep.claims_stay by i (sh.reads.seen j u i by bt h)) j u bt i by;
+              known = λ j u i bt. each-set (λ j u. (i : ℕ) → 0 < times_in i u.known → slice_index ws (3 * i + 2) ≡ 1) s.views k w (λ i h. keep.marks_stay i (sh.reads.known k v i at h)) (λ j u bt ne i h. keep.marks_stay i (sh.reads.known j u i bt h)) j u bt i;
+              seen = λ j u i by bt. each-set (λ j u. (i by : ℕ) → 0 < pairs_in i by u.seen → slice_index ws (3 * i) ≡ by + 1) s.views k w (λ i by h. keep.claims_stay by i (sh.reads.seen k v i by at h)) (λ j u bt ne i by h. keep.claims_stay by i (sh.reads.seen j u i by bt h)) j u bt i by;
               lost =
-                  λ j u i h bt. each-set (λ j u. (i h : ℕ) → 0 < pairs i h u.lost → 0 < total (taking h i) (slice_set s.views k w)) s.views k w
+                  λ j u i h bt. each-set (λ j u. (i h : ℕ) → 0 < pairs_in i h u.lost → 0 < total (taking h i) (slice_set s.views k w)) s.views k w
                   (λ i h p. omega (arith, total-set (taking h i) s.views k v w at, keep.more_takes h i, sh.reads.lost k v i h at p))
                   (λ j u bt ne i h p. omega (arith, total-set (taking h i) s.views k v w at, keep.more_takes h i, sh.reads.lost j u i h bt p)) j u bt i h;
             };

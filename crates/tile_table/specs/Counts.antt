@@ -1,4 +1,4 @@
--- how often something stands in a list, and sums over a list
+-- How often something stands in a list, and sums over a list.
 use Rattle.std.specs.Prelude.{ℕ, ◌+◌, Bool, true, false, ◌&&◌, List, [], ◌∷◌, ◌==◌}
 
 abbrev pub bit : Bool → ℕ
@@ -10,14 +10,14 @@ abbrev pub same : ℕ → ℕ → ℕ
 same a b = bit (a == b)
 
 -- how often x stands in the list
-abbrev pub times : ℕ → List ℕ → ℕ
-times x [] = 0
-times x (y ∷ ys) = same y x + times x ys
+abbrev pub times_in : ℕ → List ℕ → ℕ
+times_in x [] = 0
+times_in x (y ∷ ys) = same y x + times_in x ys
 
 -- how often the pair of a and b stands in the list
-abbrev pub pairs : ℕ → ℕ → List (ℕ × ℕ) → ℕ
-pairs a b [] = 0
-pairs a b (p ∷ ps) = bit ((p.0 == a) && (p.1 == b)) + pairs a b ps
+abbrev pub pairs_in : ℕ → ℕ → List (ℕ × ℕ) → ℕ
+pairs_in a b [] = 0
+pairs_in a b (p ∷ ps) = bit ((p.0 == a) && (p.1 == b)) + pairs_in a b ps
 
 -- f of each, added up
 abbrev pub total : {V : Type 0} → (V → ℕ) → List V → ℕ

@@ -1,19 +1,19 @@
--- the state of the machine that a table of tiles shows
+-- The state of the machine that a table of tiles shows, and the event that each kind of step is.
 use Rattle.std.specs.Prelude.{◌≡◌, ℕ, zero, suc, ◌+◌, ◌-◌, ◌*◌, ◌<◌, ◌≢◌, ◌++◌, slice_set, Ok, Err, Option, Some, None, Bool, ◌&&◌, ◌||◌, List, [], ◌∷◌, length, map, replicate, ◌==◌, nat_lt, if◌then◌else◌}
-use Rattle.tile_machine.specs.State.{State, ranging, start}
+use Rattle.tile_machine.specs.State.{State, ranging, first_state}
 use Rattle.tile_machine.specs.declared.state.Cell.{Cell}
 use Rattle.tile_machine.specs.declared.state.Worker.{Worker}
 use Rattle.tile_table.specs.declared.view.View.{View}
 use Rattle.tile_table.specs.declared.view.Hand.{Hand}
 use Rattle.tile_table.specs.declared.view.Hand.TheVariants.{Empty, Holds}
 use Rattle.atomic_table.specs.Table.{opening, keeps, takes, gives, stepped}
-use Rattle.tile_machine.specs.Next.{next}
+use Rattle.tile_machine.specs.Next.{next_state}
 use Rattle.tile_machine.specs.declared.event.Event.TheVariants.{Claim, Take, BringOut, Mark, PutBack, Free, Split, Join}
 use Rattle.tile_machine.specs.declared.refused.Refused.TheVariants.{Claimed, Held}
 use Rattle.tile_table.specs.Counts.{bit}
 use Rattle.tile_table.specs.Slots.{inside_by}
 use Rattle.tile_table.specs.Views.{opening_view, claiming, marking, with_claim, with_seen, with_lost, with_known, with_take, with_mark, with_no_hand, lower, upper, joined, nobody}
-use Rattle.tile_table.specs.Shows.{Table, Knows, claim_of, turn_of, mark_of}
+use Rattle.tile_table.specs.Shows.{Table, Knows, claim_of, lock_of, mark_of}
 
 -- whom a word names, where the numbers below n name nobody
 abbrev pub named : ℕ → ℕ → Option ℕ
@@ -29,14 +29,14 @@ place_held Empty = None
 place_held (Holds j marked) = Some j
 
 module _ {T : Type 0} where
-  -- the words of a place. Its value is at home where the turn is free; else its holder knows whether it is inside the slot
+  -- the words of a place. Its value is at home where the lock is free; else its holder knows whether it is inside the slot
   abbrev pub cell_at : Table T → (ℕ → Bool) → ℕ → Cell
   cell_at s inside i =
       record {
         claim = named 1 (claim_of s i);
-        turn = named 2 (turn_of s i);
+        lock = named 2 (lock_of s i);
         marked = mark_of s i == 1;
-        home = nat_lt (turn_of s i) 2 || inside i;
+        home = nat_lt (lock_of s i) 2 || inside i;
       }
 
   abbrev pub worker_of_view : View T → Worker
@@ -67,48 +67,52 @@ module _ {T : Type 0} where
   pub record StepsAreEvents (s : Table T) (workers : ℕ) : Type 0 where
     pub claim :
         (k : ℕ) (v : View T) (i : ℕ) (inside : ℕ → Bool) (c : List (ℕ × Option T)) → Knows s k v → v.first < v.end → i < length s.homes → claim_of s i ≡ 0
-        → next (shown workers inside s) (Claim v.first i) ≡ Ok (shown workers inside (stepped s (3 * i) (v.first + 1) k c (with_claim v i) keeps))
+        → next_state (shown workers inside s) (Claim v.first i) ≡ Ok (shown workers inside (stepped s (3 * i) (v.first + 1) k c (with_claim v i) keeps))
     pub claimed :
         (k : ℕ) (v : View T) (i by : ℕ) (inside : ℕ → Bool) (c : List (ℕ × Option T)) → Knows s k v → v.first < v.end → i < length s.homes → claim_of s i ≡ by + 1
-        → (next (shown workers inside s) (Claim v.first i) ≡ Err (Claimed by))
+        → (next_state (shown workers inside s) (Claim v.first i) ≡ Err (Claimed by))
         × (shown workers inside (stepped s (3 * i) (by + 1) k c (with_seen v i by) keeps) ≡ shown workers inside s)
+    -- a look at a claim that names nobody is no event
+    pub unclaimed :
+        (k : ℕ) (v : View T) (i : ℕ) (inside : ℕ → Bool) (c : List (ℕ × Option T)) → Knows s k v → claim_of s i ≡ 0
+        → shown workers inside (stepped s (3 * i) 0 k c v keeps) ≡ shown workers inside s
     -- the slot goes to the seat with its value
     pub take :
-        (k : ℕ) (v : View T) (j : ℕ) (m : Bool) (t : T) (inside : ℕ → Bool) (c : List (ℕ × Option T)) → Knows s k v → v.first < v.end → j < length s.homes → v.hand ≡ Empty → turn_of s j ≡ bit m
-        → next (shown workers inside s) (Take v.first j) ≡ Ok (shown workers (inside_by inside ((j, Some t) ∷ [])) (stepped s (3 * j + 1) (v.first + 2) k c (with_take v j m) (takes j (Some t))))
+        (k : ℕ) (v : View T) (j : ℕ) (m : Bool) (t : T) (inside : ℕ → Bool) (c : List (ℕ × Option T)) → Knows s k v → v.first < v.end → j < length s.homes → v.hand ≡ Empty → lock_of s j ≡ bit m
+        → next_state (shown workers inside s) (Take v.first j) ≡ Ok (shown workers (inside_by inside ((j, Some t) ∷ [])) (stepped s (3 * j + 1) (v.first + 2) k c (with_take v j m) (takes j (Some t))))
     pub held :
-        (k : ℕ) (v : View T) (j h : ℕ) (inside : ℕ → Bool) (c : List (ℕ × Option T)) → Knows s k v → v.first < v.end → j < length s.homes → v.hand ≡ Empty → turn_of s j ≡ h + 2
-        → (next (shown workers inside s) (Take v.first j) ≡ Err (Held h))
+        (k : ℕ) (v : View T) (j h : ℕ) (inside : ℕ → Bool) (c : List (ℕ × Option T)) → Knows s k v → v.first < v.end → j < length s.homes → v.hand ≡ Empty → lock_of s j ≡ h + 2
+        → (next_state (shown workers inside s) (Take v.first j) ≡ Err (Held h))
         × (shown workers inside (stepped s (3 * j + 1) (h + 2) k c (with_lost v j h) keeps) ≡ shown workers inside s)
     -- a try for "free, unmarked" that reads "free, marked" is no event
     pub read_marked :
-        (k : ℕ) (v : View T) (j : ℕ) (inside : ℕ → Bool) (c : List (ℕ × Option T)) → Knows s k v → turn_of s j ≡ 1
+        (k : ℕ) (v : View T) (j : ℕ) (inside : ℕ → Bool) (c : List (ℕ × Option T)) → Knows s k v → lock_of s j ≡ 1
         → shown workers inside (stepped s (3 * j + 1) 1 k c (with_known v j) keeps) ≡ shown workers inside s
     -- an exchange of the value with nothing changes no word and no view
     pub bring_out :
         (k : ℕ) (v : View T) (j : ℕ) (m : Bool) (t : T) (inside : ℕ → Bool) → Knows s k v → v.first < v.end → v.hand ≡ Holds j m
-        → next (shown workers (inside_by inside ((j, Some t) ∷ [])) s) (BringOut v.first j) ≡ Ok (shown workers (inside_by {T = T} inside ((j, None) ∷ [])) s)
+        → next_state (shown workers (inside_by inside ((j, Some t) ∷ [])) s) (BringOut v.first j) ≡ Ok (shown workers (inside_by {T = T} inside ((j, None) ∷ [])) s)
     -- the mark is set while the slot is without its value
     pub mark :
         (k : ℕ) (v : View T) (j : ℕ) (m : Bool) (inside : ℕ → Bool) → Knows s k v → v.first < v.end → v.hand ≡ Holds j m → 0 < claiming v.first j v → marking j v ≡ 0
-        → next (shown workers (inside_by {T = T} inside ((j, None) ∷ [])) s) (Mark v.first j)
+        → next_state (shown workers (inside_by {T = T} inside ((j, None) ∷ [])) s) (Mark v.first j)
         ≡ Ok (shown workers (inside_by {T = T} inside ((j, None) ∷ [])) (stepped s (3 * j + 2) 1 k ((j, None) ∷ []) (with_mark v j) keeps))
     pub put_back :
         (k : ℕ) (v : View T) (j : ℕ) (m : Bool) (t : T) (inside : ℕ → Bool) → Knows s k v → v.first < v.end → v.hand ≡ Holds j m
-        → next (shown workers (inside_by {T = T} inside ((j, None) ∷ [])) s) (PutBack v.first j) ≡ Ok (shown workers (inside_by inside ((j, Some t) ∷ [])) s)
+        → next_state (shown workers (inside_by {T = T} inside ((j, None) ∷ [])) s) (PutBack v.first j) ≡ Ok (shown workers (inside_by inside ((j, Some t) ∷ [])) s)
     -- the slot goes home with its value
     pub free :
         (k : ℕ) (v : View T) (j : ℕ) (m : Bool) (t : T) (inside : ℕ → Bool) → Knows s k v → v.first < v.end → v.hand ≡ Holds j m
-        → next (shown workers (inside_by inside ((j, Some t) ∷ [])) s) (Free v.first j) ≡ Ok (shown workers inside (stepped s (3 * j + 1) (bit m) k ((j, Some t) ∷ []) (with_no_hand v) gives))
+        → next_state (shown workers (inside_by inside ((j, Some t) ∷ [])) s) (Free v.first j) ≡ Ok (shown workers inside (stepped s (3 * j + 1) (bit m) k ((j, Some t) ∷ []) (with_no_hand v) gives))
     -- a cut of the range, and two ranges put together: no word and no slot changes
     pub split :
         (k : ℕ) (v : View T) (x : ℕ) (inside : ℕ → Bool) → Knows s k v → v.first < x → x < v.end
-        → next (shown workers inside s) (Split v.first x) ≡ Ok (shown workers inside (with_views s (slice_set s.views k (lower x v) ++ upper x v ∷ [])))
+        → next_state (shown workers inside s) (Split v.first x) ≡ Ok (shown workers inside (with_views s (slice_set s.views k (lower x v) ++ upper x v ∷ [])))
     pub join :
         (k other : ℕ) (v w : View T) (inside : ℕ → Bool) → Knows s k v → Knows s other w → other ≢ k → v.first < v.end → w.first < w.end → w.first ≡ v.end → w.hand ≡ Empty
-        → next (shown workers inside s) (Join v.first w.first) ≡ Ok (shown workers inside (with_views s (slice_set (slice_set s.views k (joined v w)) other nobody)))
+        → next_state (shown workers inside s) (Join v.first w.first) ≡ Ok (shown workers inside (with_views s (slice_set (slice_set s.views k (joined v w)) other nobody)))
 
   -- a table that was just made shows the machine's first state
   abbrev pub BeginsAsMachine : List T → List T → ℕ → Type 0
   BeginsAsMachine world goal workers =
-      (inside : ℕ → Bool) → shown workers inside (opening (replicate (3 * length world) 0) (map Some world) (opening_view world goal workers)) ≡ start (length world) workers
+      (inside : ℕ → Bool) → shown workers inside (opening (replicate (3 * length world) 0) (map Some world) (opening_view world goal workers)) ≡ first_state (length world) workers

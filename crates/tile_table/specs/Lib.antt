@@ -1,8 +1,9 @@
 pub mod Calls
 pub mod Counts
 pub mod Events
+pub mod Inner
 pub mod Seats
 pub mod Shows
 pub mod Slots
-pub mod Steps
+pub mod Stays
 pub mod Views

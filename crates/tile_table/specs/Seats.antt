@@ -1,4 +1,4 @@
--- what clauses say of a table, its seats and their turns
+-- What clauses say of a table, its seats and the turns that they have in hand.
 use Rattle.std.specs.Prelude.{◌≡◌, ℕ, ◌<◌, Bool, length}
 use Rattle.atomic_table.specs.Seated.{TableId}
 use Rattle.tile_machine.specs.At.{At}
@@ -38,7 +38,7 @@ module _ {X T Q : Type 0} where
   abbrev pub turn_marked : Turn X T Q → Bool
   turn_marked turn = turn.marked
 
-  -- a turn that the seat of this view has in hand
+  -- a lock that the seat of this view has in hand
   pub record HasTurn (v : View T) (turn : Turn X T Q) : Type 0 where
     pub hand : v.hand ≡ Holds (turn_place turn) (turn_marked turn)
     pub inside : turn_place turn < length v.world

@@ -1,16 +1,16 @@
--- what a seat knows, and how each step changes it
+-- What a seat knows, and how each step changes it.
 use Rattle.std.specs.Prelude.{ℕ, ◌<◌, ◌≤◌, Bool, true, false, ◌&&◌, List, [], ◌∷◌, ◌++◌, ◌==◌, nat_lt, nat_le, ◌⊎◌}
 use Rattle.tile_table.specs.declared.view.View.{View}
 use Rattle.tile_table.specs.declared.view.Hand.{Hand}
 use Rattle.tile_table.specs.declared.view.Hand.TheVariants.{Empty, Holds}
-use Rattle.tile_table.specs.Counts.{bit, times, pairs}
+use Rattle.tile_table.specs.Counts.{bit, times_in, pairs_in}
 
 -- the finished tiles where marked, else the world's
 abbrev pub tiles_by : {T : Type 0} → Bool → List T → List T → List T
 tiles_by true world goal = goal
 tiles_by false world goal = world
 
--- 1 where the hand of the seat with this number holds the turn of place i for worker w
+-- 1 where the hand of the seat with this number holds the lock of place i for worker w
 abbrev pub held : ℕ → ℕ → ℕ → Hand → ℕ
 held w i number Empty = 0
 held w i number (Holds j marked) = bit ((number == w) && (j == i))
@@ -105,15 +105,15 @@ module _ {T : Type 0} where
 
   -- how often the view has this claim, this take, this mark
   abbrev pub claiming : ℕ → ℕ → View T → ℕ
-  claiming w i v = pairs w i v.claims
+  claiming w i v = pairs_in w i v.claims
 
   abbrev pub taking : ℕ → ℕ → View T → ℕ
-  taking w i v = pairs w i v.takes
+  taking w i v = pairs_in w i v.takes
 
   abbrev pub marking : ℕ → View T → ℕ
-  marking i v = times i v.marks
+  marking i v = times_in i v.marks
 
-  -- 1 where the seat of worker w holds the turn of place i
+  -- 1 where the seat of worker w holds the lock of place i
   abbrev pub holding : ℕ → ℕ → View T → ℕ
   holding w i v = held w i v.first v.hand
 

@@ -9,7 +9,7 @@ pub enum Claim {
     Taken { by: u64 },
 }
 
-/// Another worker held the turn: its number stood in the turn's word.
+/// Another worker held the lock: its number stood in the lock's word.
 #[derive(Clone, Copy, Debug, PartialEq, Eq)]
 pub struct Busy {
     pub holder: u64,
@@ -18,7 +18,7 @@ pub struct Busy {
 /// Why a part wasn't seen.
 #[derive(Clone, Copy, Debug, PartialEq, Eq)]
 pub enum Unseen {
-    /// Another worker held the turn.
+    /// Another worker held the lock.
     Busy { holder: u64 },
     /// There was no memory for the part.
     OutOfMemory,

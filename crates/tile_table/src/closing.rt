@@ -7,7 +7,7 @@ ghost use Rattle.tile_table.specs.Calls.{ClosedBy};
 
 use crate::seat::{Closed, Seat};
 use crate::table::TileTable;
-use tile_machine::phase::Phase;
+use tile_machine::Phase;
 
 impl<P: Phase> TileTable<P> {
     /// The tiles in order, each with whether it is done, once the seat has all the numbers again. They come in the empty `room`,

@@ -8,7 +8,7 @@ ghost use Rattle.tile_table.specs.Events.{StepsAreEvents, BeginsAsMachine};
 /// of its row. What the step reads instead is the event's refusal, or no event, and leaves what is shown. And a table that was
 /// just made shows the machine's first state.
 ///
-/// The states of the machine are those that the table shows: claims, turns and marks as the words have them, each worker as its
+/// The states of the machine are those that the table shows: claims, locks and marks as the words have them, each worker as its
 /// seat's view has it, and a value inside its slot as the slots have it that are out with its holder. The function does nothing:
 /// its clauses speak of the steps that the calls take.
 pub fn steps_are_events<T>()

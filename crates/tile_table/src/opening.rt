@@ -10,9 +10,8 @@ use crate::seat::Seat;
 use crate::table::TileTable;
 use atomic_table::Table;
 use std::alloc::{AllocError, Global};
-use tile_machine::phase::Phase;
+use tile_machine::Phase;
 
-/// The words of this many tiles: no claim, no turn and no mark.
 fn first_words(alloc: Global, tiles: u64) -> Result<Vec<u64>, AllocError>
     requires { tiles < 2 ^ 32 }
     ensures { IfOk result (λ words. words.items ≡ replicate (3 * tiles) 0) }
@@ -20,7 +19,6 @@ fn first_words(alloc: Global, tiles: u64) -> Result<Vec<u64>, AllocError>
     vec![in alloc; 0; 3 * tiles as usize]
 }
 
-/// A slot for each tile.
 fn first_slots<T: Drop>(alloc: Global, tiles: Vec<T>) -> Result<Vec<Option<T>>, AllocError>
     ensures { IfOk result (λ slots. slots.items ≡ map Some tiles.items) }
 {

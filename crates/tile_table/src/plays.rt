@@ -1,12 +1,19 @@
 //! What each atomic step tells its seat. These types are for the proofs alone.
 
 ghost use Rattle.std.specs.Prelude.{ℕ, true, false};
-ghost use Rattle.tile_table.specs.Steps.{claimed, tried, marked, freed};
+ghost use Rattle.tile_table.specs.Inner.Steps.{claim_seen, claimed, tried, marked, freed};
 ghost use Rattle.tile_table.specs.Views.{lower, upper, joined, nobody};
 
 use crate::view::View;
 use atomic_table::{Join, Play, Split};
 use std::marker::{Brand, PhantomData};
+
+/// A look at a claim word.
+pub struct SeeClaim;
+
+impl<T> Play<Option<T>, View<T>> for SeeClaim {
+    ghost then = { λ step before found after. claim_seen step.word before found after };
+}
 
 /// An exchange on a claim word, from no claim to the seat's.
 pub struct TryClaim;
@@ -15,31 +22,31 @@ impl<T> Play<Option<T>, View<T>> for TryClaim {
     ghost then = { λ step before found after. claimed step.word before found after };
 }
 
-/// An exchange on a turn word, from "free, unmarked" to the seat's turn.
+/// An exchange on a lock word, from "free, unmarked" to the seat's lock.
 pub struct TryUnmarked;
 
 impl<T> Play<Option<T>, View<T>> for TryUnmarked {
     ghost then = { λ step before found after. tried false step.word before found after };
 }
 
-/// An exchange on a turn word, from "free, marked" to the seat's turn.
+/// An exchange on a lock word, from "free, marked" to the seat's lock.
 pub struct TryMarked;
 
 impl<T> Play<Option<T>, View<T>> for TryMarked {
     ghost then = { λ step before found after. tried true step.word before found after };
 }
 
-/// A store to a mark word, by the holder of the turn.
+/// A store to a mark word, by the holder of the lock.
 pub struct SetMark;
 
 impl<T> Play<Option<T>, View<T>> for SetMark {
     ghost then = { λ step before found after. marked step.word before after };
 }
 
-/// A store to a turn word, by the holder of the turn.
-pub struct FreeTurn;
+/// A store to a lock word, by the holder of the lock.
+pub struct FreeLock;
 
-impl<T> Play<Option<T>, View<T>> for FreeTurn {
+impl<T> Play<Option<T>, View<T>> for FreeLock {
     ghost then = { λ step before found after. freed before after };
 }
 

@@ -9,7 +9,7 @@ use crate::plays::{Append, Cut, Number};
 use crate::seat::Seat;
 use crate::table::TileTable;
 use std::marker::Brand;
-use tile_machine::phase::Phase;
+use tile_machine::Phase;
 
 impl<P: Phase> TileTable<P> {
     /// Cuts the seat's range at `at`. The answer is the seat of a new worker, with the numbers from `at` on: it has done nothing.

@@ -1,11 +1,11 @@
-//! The seat of a worker at a table, and the turn of a tile.
+//! The seat of a worker at a table, and the lock of a tile.
 
 ghost use Rattle.std.specs.Prelude.{◌≡◌, ◌<◌, ◌≤◌, length, true};
-ghost use Rattle.tile_table.specs.Slots.{slots_fit};
+ghost use Rattle.tile_table.specs.Inner.OutSlots.{slots_fit};
 
 use crate::view::View;
 use atomic_table::Seat as Place;
-use tile_machine::phase::Phase;
+use tile_machine::Phase;
 
 /// A worker's seat. Contracts speak of its `view`. It goes to another thread where the tiles may.
 pub struct Seat<P: Phase> {
@@ -43,7 +43,7 @@ impl<P: Phase> Seat<P> {
     }
 }
 
-/// The turn of a tile, with the tile. It has to be spent, by `give` or `finish`.
+/// A tile's lock in the hand of a seat, with the tile. It has to be spent, by `give` or `finish`.
 pub struct Turn<P: Phase> {
     pub(crate) place: u64,
     pub(crate) tile: P::Tile,

@@ -7,9 +7,9 @@ use crate::rule::Tiles;
 use crate::view::View;
 use atomic_table::Table;
 use std::alloc::Global;
-use tile_machine::phase::Phase;
+use tile_machine::Phase;
 
-/// The tiles of a stage, as threads share them: for each place a claim, a turn, a mark and a slot.
+/// The tiles of a stage, as threads share them: for each place a claim, a lock, a mark and a slot.
 pub struct TileTable<P: Phase> {
     pub(crate) table: Table<Option<P::Tile>, View<P::Tile>, Aim<View<P::Tile>>, Tiles, Global>,
     pub(crate) count: u64,

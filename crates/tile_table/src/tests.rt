@@ -2,20 +2,17 @@
 
 ghost use Rattle.std.specs.Prelude.{◌≡◌, ◌<◌, length};
 ghost use Rattle.tile_machine.specs.At.{At};
-ghost use Rattle.tile_table.specs.Counts.{times, pairs};
+ghost use Rattle.tile_table.specs.Counts.{times_in, pairs_in};
 ghost use Rattle.tile_table.specs.declared.view.Hand.{Hand};
 ghost use Rattle.tile_table.specs.Seats.{view, seat_name, IsAt};
 
-use crate::answer::{Claim, Unseen};
-use crate::events::steps_are_events;
-use crate::seat::Seat;
-use crate::table::TileTable;
+use crate::{Claim, Seat, TileTable, Unseen, steps_are_events};
 use phase_samples::{Summand, Sums, summands};
 use std::test::Fail;
 use std::thread::join;
-use tile_machine::phase::Phase;
+use tile_machine::Phase;
 
-/// Worker 0 claims a tile and holds its turn. Worker 1 is told so, and sees the tile's part after the turn was given back.
+/// Worker 0 claims a tile and holds its lock. Worker 1 is told so, and sees the tile's part after the lock was given back.
 #[test]
 fn two_workers_and_one_tile(rt: HostRuntime) -> Result<(), Fail> {
     let alloc = rt.alloc();
@@ -49,7 +46,7 @@ fn two_workers_and_one_tile(rt: HostRuntime) -> Result<(), Fail> {
     Ok(())
 }
 
-/// One tile of three is finished, and its turn shows the finished tile from then on.
+/// One tile of three is finished, and its lock shows the finished tile from then on.
 #[test]
 fn one_tile_of_three_is_done(rt: HostRuntime) -> Result<(), Fail> {
     let tiles = [1, 2, 3]
@@ -108,8 +105,8 @@ fn put<P: Phase>(table: &TileTable<P>, mut seat: Seat<P>, i: u64, tile: P::Tile)
     requires hand { (view seat).hand ≡ Hand.Empty }
     requires place { i < length (view seat).world }
     requires finished { At (view seat).goal i tile }
-    requires claimed { 0 < pairs (view seat).first i (view seat).claims }
-    requires unmarked { times i (view seat).marks ≡ 0 }
+    requires claimed { 0 < pairs_in (view seat).first i (view seat).claims }
+    requires unmarked { times_in i (view seat).marks ≡ 0 }
     ensures table { seat_name result ≡ seat_name seat }
     ensures hand { (view result).hand ≡ Hand.Empty }
     ensures world { (view result).world ≡ (view seat).world }

@@ -2,7 +2,7 @@
 
 use std::collections::LinkedList;
 
-/// The tile whose turn a seat holds.
+/// The tile whose lock a seat holds.
 pub enum Hand {
     Empty,
     /// This place, and whether its tile is marked.
@@ -24,13 +24,13 @@ pub struct View<T> {
     pub hand: Hand,
     /// Each claim that succeeded: a worker and a place.
     pub claims: LinkedList<(u64, u64)>,
-    /// Each turn that was taken: a worker and a place.
+    /// Each lock that was taken: a worker and a place.
     pub takes: LinkedList<(u64, u64)>,
     /// The places that were marked.
     pub marks: LinkedList<u64>,
     /// Each claim of another that was met: a place and the claimant.
     pub seen: LinkedList<(u64, u64)>,
-    /// Each turn that was tried while another held it: a place and the holder.
+    /// Each lock that was tried while another held it: a place and the holder.
     pub lost: LinkedList<(u64, u64)>,
     /// The places that were read as marked.
     pub known: LinkedList<u64>,

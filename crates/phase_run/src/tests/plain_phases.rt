@@ -5,8 +5,7 @@ ghost use Rattle.std.specs.Prelude.{⊤, refl};
 use crate::tests::gates::is_set_soon;
 use std::alloc::{AllocError, Global};
 use std::sync::atomic::{AtomicBool, Ordering};
-use tile_machine::parts::{PartFault, Parts};
-use tile_machine::phase::Phase;
+use tile_machine::{PartFault, Parts, Phase};
 
 /// A phase of two tiles. The rewriting of each holds until that of the other has begun, but not for ever.
 #[derive(Drop)]

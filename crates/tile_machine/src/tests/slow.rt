@@ -1,8 +1,7 @@
-//! The table of events once more, as a plain slow program over maps and sets: a hand is looked up among all turns, and a
+//! The table of events once more, as a plain slow program over maps and sets: a hand is looked up among all locks, and a
 //! worker lives where it has an end.
 
-use crate::event::Event;
-use crate::refused::Refused;
+use crate::{Event, Refused};
 use std::alloc::{AllocError, Global};
 use std::collections::{BTreeMap, BTreeSet};
 use std::test::Fail;
@@ -12,7 +11,7 @@ pub struct Slow {
     tiles: u64,
     ends: BTreeMap<u64, u64>,
     claims: BTreeMap<u64, u64>,
-    turns: BTreeMap<u64, u64>,
+    locks: BTreeMap<u64, u64>,
     marks: BTreeSet<u64>,
     out: BTreeSet<u64>,
 }
@@ -25,14 +24,14 @@ impl Slow {
             tiles,
             ends,
             claims: BTreeMap::new(alloc),
-            turns: BTreeMap::new(alloc),
+            locks: BTreeMap::new(alloc),
             marks: BTreeSet::new(alloc),
             out: BTreeSet::new(alloc),
         })
     }
 
     fn hand(&self, worker: u64) -> Option<u64> {
-        for (tile, holder) in &self.turns {
+        for (tile, holder) in &self.locks {
             if *holder == worker {
                 return Some(*tile);
             }
@@ -51,12 +50,12 @@ impl Slow {
         None
     }
 
-    /// The same, or that the worker doesn't hold the tile's turn.
+    /// The same, or that the worker doesn't hold the tile's lock.
     fn not_holding(&self, worker: u64, tile: u64) -> Option<Refused> {
         if let Some(cause) = self.missing(worker, tile) {
             return Some(cause);
         }
-        if self.turns.get(&tile).copied() != Some(worker) {
+        if self.locks.get(&tile).copied() != Some(worker) {
             return Some(Refused::NotHolder);
         }
         None
@@ -80,10 +79,10 @@ impl Slow {
         if let Some(held) = self.hand(worker) {
             return Ok(Some(Refused::HandsFull { tile: held }));
         }
-        if let Some(by) = self.turns.get(&tile).copied() {
+        if let Some(by) = self.locks.get(&tile).copied() {
             return Ok(Some(Refused::Held { by }));
         }
-        self.turns.insert(tile, worker)?;
+        self.locks.insert(tile, worker)?;
         Ok(None)
     }
 
@@ -133,7 +132,7 @@ impl Slow {
         if self.out.contains(&tile) {
             return Some(Refused::IsOut);
         }
-        self.turns.remove(&tile);
+        self.locks.remove(&tile);
         None
     }
 

@@ -1,7 +1,7 @@
 use Rattle.std.proofs.Common.{◌≡◌, ◌+◌, ◌<◌, length, map, slice_set, true, ap, sym, ◌∙◌, subst, arith}
 use Rattle.std.proofs.lemmas.List.{length-map}
 use Rattle.std.proofs.Math.ListN.{get_elem?}
-use Rattle.phase_run.specs.Rest.{ByFlags}
+use Rattle.phase_run.specs.Inner.Rest.{ByFlags}
 use Rattle.phase_run.proofs.Finishing.{AllBefore, apart, shows-parts, not-done, one-finished, done-before, set-before, all-finished}
 use Rattle.phase_run.proofs.rest.finish_rest.Goals.{then-not-index+in_ok-tile, else-not-index}
 use Rattle.phase_run.proofs.rest.finish_rest.Goals as goal

@@ -1,4 +1,4 @@
-use Rattle.phase_run.specs.Rest.{ByFlags}
+use Rattle.phase_run.specs.Inner.Rest.{ByFlags}
 use Rattle.phase_run.proofs.Finishing.{AllBefore}
 use Rattle.phase_run.proofs.rest.finish_rest.Given as goal
 

@@ -1,6 +1,6 @@
 use Rattle.std.proofs.Common.{sym, ◌∙◌, subst}
 use Rattle.tile_machine.specs.At.{At}
-use Rattle.tile_machine.specs.Bridges.{at_read}
+use Rattle.tile_machine.proofs.Bridges.{at_read}
 use Rattle.phase_run.proofs.rest.finished_tile.Goals as goal
 
 pub rewrite-requires-clause-world : goal.rewrite-requires-clause-world

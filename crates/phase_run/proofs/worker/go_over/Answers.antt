@@ -1,7 +1,7 @@
 use Rattle.std.proofs.Common.{◌≡◌, length, ap, subst, arith}
 use Rattle.tile_table.specs.Seats.{view}
-use Rattle.phase_run.specs.Workers.{GoesOver}
-use Rattle.phase_run.specs.Stays.{loses-before}
+use Rattle.phase_run.specs.Inner.Workers.{GoesOver}
+use Rattle.tile_table.proofs.Staying.{loses-before}
 use Rattle.phase_run.proofs.Working.{worked-on, alone-worked, goes-on, noted-waits}
 use Rattle.phase_run.proofs.worker.go_over.Goals as goal
 

@@ -1,5 +1,5 @@
 use Rattle.tile_table.specs.Seats.{view}
-use Rattle.phase_run.specs.Stays.{loses-before}
+use Rattle.tile_table.proofs.Staying.{loses-before}
 use Rattle.phase_run.proofs.Working.{worked-on, alone-worked, last-waits, rest-waits, finishes-one}
 use Rattle.phase_run.proofs.worker.go_over_again.Goals as goal
 

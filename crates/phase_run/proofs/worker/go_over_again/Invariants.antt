@@ -1,6 +1,6 @@
 use Rattle.tile_table.specs.Seats.{view}
-use Rattle.phase_run.specs.Looks.{Loses}
-use Rattle.phase_run.specs.Workers.{Worked, Waiting, Finishes}
+use Rattle.tile_table.specs.Stays.{Loses}
+use Rattle.phase_run.specs.Inner.Workers.{Worked, Waiting, Finishes}
 use Rattle.phase_run.proofs.worker.go_over_again.Given as goal
 
 abbrev pub invariant-loop : goal.invariant-loop

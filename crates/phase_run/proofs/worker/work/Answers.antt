@@ -1,6 +1,6 @@
 use Rattle.std.proofs.Common.{subst}
 use Rattle.tile_table.specs.Seats.{view}
-use Rattle.phase_run.specs.Workers.{GoesOver}
+use Rattle.phase_run.specs.Inner.Workers.{GoesOver}
 use Rattle.phase_run.proofs.Working.{goes-round, went-again}
 use Rattle.phase_run.proofs.worker.work.Goals as goal
 

@@ -1,5 +1,5 @@
 use Rattle.std.proofs.Common.{sym}
-use Rattle.tile_machine.specs.Bridges.{at_get}
+use Rattle.tile_machine.proofs.Bridges.{at_get}
 use Rattle.phase_samples.proofs.fence.height_of.Goals as goal
 
 -- what was read stands at the place, so it is the height there

@@ -1,6 +1,6 @@
 use Rattle.std.proofs.Common.{◌≡◌, List, map, Result, Ok, Err, IfOk, refl, sym, ◌∙◌, subst}
 use Rattle.tile_machine.specs.At.{At}
-use Rattle.tile_machine.specs.Bridges.{at_read}
+use Rattle.tile_machine.proofs.Bridges.{at_read}
 use Rattle.phase_samples.proofs.tests.finished_tile.Goals as goal
 
 -- what an answer says of each world, said of one

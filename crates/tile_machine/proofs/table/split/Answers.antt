@@ -1,5 +1,5 @@
 use Rattle.std.proofs.Common.{◌<◌, length, length-set, rules, sym, ◌∙◌}
-use Rattle.tile_machine.specs.State.{state_of}
+use Rattle.tile_machine.specs.Inner.{state_of}
 use Rattle.tile_machine.proofs.EveryEvent.{split_inside}
 use Rattle.tile_machine.proofs.table.split.Goals as goal
 use Rattle.tile_machine.proofs.table.split.Goals.{Else-not-is_inside}

@@ -1,5 +1,5 @@
 use Rattle.tile_machine.specs.declared.event.Event.TheVariants.{Claim, Take, BringOut, Mark, PutBack, Free, Split, Join}
-use Rattle.tile_machine.specs.State.{state_of}
+use Rattle.tile_machine.specs.Inner.{state_of}
 use Rattle.tile_machine.proofs.EveryEvent.{good_follows}
 use Rattle.tile_machine.proofs.table.step.Goals as goal
 

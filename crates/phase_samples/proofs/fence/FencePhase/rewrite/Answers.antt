@@ -1,6 +1,7 @@
 use Rattle.std.proofs.Common.{◌≡◌, ℕ, ◌+◌, List, map, sym, subst, arith}
 use Rattle.tile_machine.specs.At.{At}
-use Rattle.tile_machine.specs.FromParts.{finished_by, finished-at}
+use Rattle.tile_machine.specs.FinishedBy.{finished_by}
+use Rattle.tile_machine.proofs.FromParts.{finished-at}
 use Rattle.phase_samples.specs.Beside.{height_at, height_before, with_beside}
 use Rattle.phase_samples.proofs.fence.FencePhase.rewrite.Goals as goal
 

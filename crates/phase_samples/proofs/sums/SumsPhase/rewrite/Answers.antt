@@ -1,9 +1,10 @@
 use Rattle.std.proofs.Common.{◌≡◌, ℕ, ◌+◌, List, map, sum, sym, ap, ◌∙◌, subst, arith, rules}
 use Rattle.tile_machine.specs.At.{At}
-use Rattle.tile_machine.specs.FromParts.{finished_by, finished-at}
+use Rattle.tile_machine.specs.FinishedBy.{finished_by}
+use Rattle.tile_machine.proofs.FromParts.{finished-at}
 use Rattle.phase_samples.specs.declared.sums.Summand.{Summand}
 use Rattle.std.proofs.lemmas.List.{take_all}
-use Rattle.tile_machine.specs.Bridges.{sum_more}
+use Rattle.tile_machine.proofs.Bridges.{sum_more}
 use Rattle.phase_samples.proofs.sums.SumsPhase.rewrite.Goals as goal
 
 pub part-requires : goal.part-requires

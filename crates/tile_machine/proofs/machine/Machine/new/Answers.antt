@@ -1,6 +1,7 @@
 use Rattle.std.proofs.Common.{slice_set, subst, sym}
 use Rattle.tile_machine.specs.Good.{IsGood}
-use Rattle.tile_machine.specs.State.{ranging, state_of}
+use Rattle.tile_machine.specs.State.{ranging}
+use Rattle.tile_machine.specs.Inner.{state_of}
 use Rattle.tile_machine.proofs.Begins.{good_lists}
 use Rattle.tile_machine.proofs.machine.Machine.new.Goals as goal
 

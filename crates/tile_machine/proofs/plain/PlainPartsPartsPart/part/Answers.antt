@@ -1,4 +1,4 @@
-use Rattle.tile_machine.specs.Bridges.{part_read}
+use Rattle.tile_machine.proofs.Bridges.{part_read}
 use Rattle.tile_machine.proofs.plain.PlainPartsPartsPart.part.Goals as goal
 
 pub returns-in-Ok-clause-part : goal.returns-in-Ok-clause-part

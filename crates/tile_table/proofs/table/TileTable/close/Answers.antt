@@ -8,7 +8,7 @@ use Rattle.tile_machine.specs.At.{At}
 use Rattle.tile_table.specs.declared.seat.Closed.{Closed}
 use Rattle.tile_table.specs.Shows.{Shows}
 use Rattle.tile_table.specs.Views.{tiles_by}
-use Rattle.tile_table.specs.Counts.{times}
+use Rattle.tile_table.specs.Counts.{times_in}
 use Rattle.tile_table.proofs.LastState.{ClosedSoFar, closes-at, same-tile, none-closed, one-more-closed}
 use Rattle.tile_table.proofs.Row.{still-full, more-empty}
 use Rattle.tile_table.proofs.table.TileTable.close.Goals as goal
@@ -91,7 +91,7 @@ loop-i-preserved g c =
       tiles =
           subst (λ xs. ClosedSoFar v xs) (sym more.items)
           (one-more-closed v c.loop-i.room.items one inv.tiles
-          (subst (λ n. eqb c.word-done.result 1 ≡ nat_lt 0 (times n v.marks)) (sym inv.many) found.0)
+          (subst (λ n. eqb c.word-done.result 1 ≡ nat_lt 0 (times_in n v.marks)) (sym inv.many) found.0)
           (subst (λ n. At (tiles_by (eqb c.word-done.result 1) v.world v.goal) n c.in-Some.tile) (sym inv.many) (subst (λ t. At (tiles_by (eqb c.word-done.result 1) v.world v.goal) c.loop-i.i t) tile found.1.1)));
     }
 

@@ -45,7 +45,7 @@ store-requires-2 g c =
       frees table.table.shared.table_id.slots _ _ mid.me.0 c.args.turn.place _ true c.args.tile
           (moved.3 ∙ ap (λ xs. (mid.me.0, (c.args.turn.place, Some c.args.tile) ∷ xs)) (ap rest out))
           (omega (arith, seat.live, seat.numbered, first, end)) (ap (λ y. y.0.hand) k.0)
-          (subst (λ goal. At goal c.args.turn.place c.args.tile) (sym (ap (λ y. y.0.goal) k.0)) c.requires.finished) c.free_turn.ensures,
+          (subst (λ goal. At goal c.args.turn.place c.args.tile) (sym (ap (λ y. y.0.goal) k.0)) c.requires.finished) c.free_lock.ensures,
     )
 
 pub invariant_of-seat : goal.invariant_of-seat

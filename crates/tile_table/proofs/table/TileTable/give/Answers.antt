@@ -22,5 +22,5 @@ store-requires g c =
       moved.0 ∙ c.requires.table,
       omega (arith, table.words, table.slots, slots, seat.placed, seat.counted, turn.inside),
       frees table.table.shared.table_id.slots _ _ seat.seat.me.0 c.args.turn.place _ c.args.turn.marked c.args.turn.tile
-          (moved.3 ∙ ap (λ xs. (seat.seat.me.0, (c.args.turn.place, Some c.args.turn.tile) ∷ xs)) (ap rest o)) (omega (arith, seat.live, seat.numbered)) turn.hand turn.stands c.free_turn.ensures,
+          (moved.3 ∙ ap (λ xs. (seat.seat.me.0, (c.args.turn.place, Some c.args.turn.tile) ∷ xs)) (ap rest o)) (omega (arith, seat.live, seat.numbered)) turn.hand turn.stands c.free_lock.ensures,
     )

@@ -1,7 +1,7 @@
 use Rattle.std.proofs.Common.{◌∙◌, refl}
 use Rattle.tile_table.specs.Seats.{view}
 use Rattle.phase_run.proofs.Looking.{begins-trying, tries-again}
-use Rattle.phase_run.proofs.tries.turn_of.Goals as goal
+use Rattle.phase_run.proofs.tries.taken_soon.Goals as goal
 
 pub loop-tried-init : goal.loop-tried-init
 loop-tried-init g c = record { table = refl; trying = begins-trying (view c.args.seat.now) c.args.j c.requires.hand }

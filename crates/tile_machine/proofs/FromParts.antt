@@ -1,18 +1,10 @@
--- finished tiles that each follow from their place, all readable parts and the world's tile there. What a phase of this kind owes
+-- What a phase owes whose finished tiles each follow from their place, all readable parts and the world's tile there.
 use Rattle.std.specs.Prelude.{◌≡◌, ℕ, ◌+◌, List, [], ◌∷◌, length, map, refl}
 use Rattle.std.proofs.Common.{zero, suc, sym, ap, ◌∙◌, arith}
 use Rattle.std.proofs.Math.ListN.{get_elem?}
 use mathlib.Core.Option.{Option as Maybe, some, none}
 use Rattle.tile_machine.specs.At.{At}
-
--- f of each place, counted from i, and of the tile there
-abbrev pub each_place : {T : Type 0} → (ℕ → T → T) → ℕ → List T → List T
-each_place f i [] = []
-each_place f i (t ∷ ts) = f i t ∷ each_place f (i + 1) ts
-
--- the finished tiles of a world, where `finish` makes one from its place, all readable parts and the world's tile
-abbrev pub finished_by : {T P : Type 0} → (T → P) → (ℕ → List P → T → T) → List T → List T
-finished_by readable finish world = each_place (λ i t. finish i (map readable world) t) 0 world
+use Rattle.tile_machine.specs.FinishedBy.{each_place, finished_by}
 
 length-each_place : {T : Type 0} (f : ℕ → T → T) (i : ℕ) (ts : List T) → length (each_place f i ts) ≡ length ts
 length-each_place f i [] = refl

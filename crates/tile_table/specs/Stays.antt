@@ -1,23 +1,16 @@
--- what a worker's look at the tiles of others shows and leaves
-use Rattle.std.specs.Prelude.{◌≡◌, ℕ, ◌+◌, ◌<◌, ◌≤◌, Bool, true, false, List, [], ◌∷◌, ◌++◌, length, map}
+-- What a seat keeps while it looks at the tiles of others, and what it is shown.
+use Rattle.std.specs.Prelude.{◌≡◌, ℕ, ◌≤◌, Bool, true, false, List, [], ◌∷◌, ◌++◌, length, map}
 use Rattle.tile_machine.specs.declared.phase.Phase.{Ghosts}
 use Rattle.tile_table.specs.declared.view.View.{View}
 use Rattle.tile_table.specs.declared.view.Hand.{Hand}
 use Rattle.tile_table.specs.declared.view.Hand.TheVariants.{Empty, Holds}
 use Rattle.tile_table.specs.declared.seat.Seat.{Seat}
-use Rattle.tile_table.specs.declared.seat.Turn.{Turn}
-use Rattle.tile_table.specs.Counts.{times, pairs}
-use Rattle.tile_table.specs.Seats.{view, seat_name, turn_place, turn_marked, HasTurn}
-use Rattle.phase_run.specs.Tries.{GainedTries}
+use Rattle.tile_table.specs.Seats.{view, seat_name}
 
--- whether no turn is in hand
+-- whether no lock is in hand
 abbrev pub is_empty : Hand → Bool
 is_empty Empty = true
 is_empty (Holds j marked) = false
-
--- how often a turn is tried in a row
-abbrev pub tries_in_a_row : ℕ
-tries_in_a_row = 1000
 
 module _ {T : Type 0} where
   -- the lists of tiles, the range, the claims, those of others that were met, and the marks are what they were
@@ -40,33 +33,16 @@ module _ {T : Type 0} where
     pub more : length before.lost ≤ length after.lost
     pub alone : IsAlone before → after.lost ≡ before.lost
 
-  -- the turn of place j was taken once
+  -- the lock of place j was taken once
   abbrev pub TookOne : ℕ → View T → View T → Type 0
   TookOne j before after = after.takes ≡ before.takes ++ (before.first, j) ∷ []
-
-  -- the turn of place j was tried as often as is allowed, each time in vain, and the last time this worker held it
-  abbrev pub TriedInVain : ℕ → View T → View T → ℕ → ℕ → Type 0
-  TriedInVain j before after place holder = (place ≡ j) × GainedTries place holder tries_in_a_row before.lost after.lost
 
   -- these are the readable parts of the world's tiles, and of the finished ones
   abbrev pub Shown : {Q : Type 0} → (T → Q) → View T → List Q → Type 0
   Shown readable v parts = (parts ≡ map readable v.world) × (parts ≡ map readable v.goal)
 
-module _ {X T Q : Type 0} where
-  -- the turn of place j was taken once, after fewer tries in vain than are allowed
-  pub record TurnGot (before : View T) (j : ℕ) (got : Turn X T Q) (after : View T) : Type 0 where
-    pub place : turn_place got ≡ j
-    pub turn : HasTurn after got
-    pub unchanged : Unchanged before after
-    pub takes : TookOne j before after
-    pub loses : Loses before after
-    -- one of the tries was not in vain
-    pub few : length after.lost < length before.lost + tries_in_a_row
-    -- what the seat claimed under its own number and hasn't marked, nobody else marked
-    pub own_claim : 0 < pairs before.first j before.claims → times j before.marks ≡ 0 → turn_marked got ≡ false
-
 module _ {X T Q : Type 0} {g : Ghosts X T Q} where
-  -- after a look at a tile the seat is at its table, holds no turn, and has the same lists of tiles, range, claims and marks.
+  -- after a look at a tile the seat is at its table, holds no lock, and has the same lists of tiles, range, claims and marks.
   -- Its lost tries may be more
   pub record Looked (before after : Seat X T Q g) : Type 0 where
     pub table : seat_name after ≡ seat_name before

@@ -1,25 +1,41 @@
--- what a worker needs, and what it leaves
+-- What a worker needs, and what it leaves.
 use Rattle.std.specs.Prelude.{◌≡◌, ℕ, ◌+◌, ◌<◌, ◌≤◌, Bool, true, false, List, [], ◌∷◌, ◌++◌, length, ◌⊎◌}
 use Rattle.tile_machine.specs.declared.phase.Phase.{Ghosts}
 use Rattle.tile_table.specs.declared.view.View.{View}
 use Rattle.tile_table.specs.declared.view.Hand.TheVariants.{Empty}
 use Rattle.tile_table.specs.declared.seat.Seat.{Seat}
 use Rattle.tile_table.specs.declared.table.TileTable.{TileTable}
-use Rattle.tile_table.specs.Counts.{times, pairs}
+use Rattle.tile_table.specs.Counts.{times_in, pairs_in}
 use Rattle.tile_table.specs.Seats.{view, seat_name, IsAt}
-use Rattle.phase_run.specs.Looks.{IsAlone}
+use Rattle.tile_table.specs.Stays.{IsAlone, Unchanged, Loses, TookOne}
+use Rattle.tile_table.specs.declared.seat.Turn.{Turn}
+use Rattle.tile_table.specs.Seats.{turn_place, turn_marked, HasTurn}
+use Rattle.phase_run.specs.Tries.{tries_in_a_row}
 use Rattle.phase_run.specs.declared.worker.Visit.{Visit}
 use Rattle.phase_run.specs.declared.worker.Visit.TheVariants.{Finished, PutOff, Passed}
 
+module _ {X T Q : Type 0} where
+  -- the lock of place j was taken once, after fewer tries in vain than are allowed
+  pub record TurnGot (before : View T) (j : ℕ) (got : Turn X T Q) (after : View T) : Type 0 where
+    pub place : turn_place got ≡ j
+    pub turn : HasTurn after got
+    pub unchanged : Unchanged before after
+    pub takes : TookOne j before after
+    pub loses : Loses before after
+    -- one of the tries was not in vain
+    pub few : length after.lost < length before.lost + tries_in_a_row
+    -- what the seat claimed under its own number and hasn't marked, nobody else marked
+    pub own_claim : 0 < pairs_in before.first j before.claims → times_in j before.marks ≡ 0 → turn_marked got ≡ false
+
 module _ {X T Q : Type 0} {g : Ghosts X T Q} where
-  -- a seat of this table that holds no turn, for a phase that fits its world and whose finished tiles are its goal
+  -- a seat of this table that holds no lock, for a phase that fits its world and whose finished tiles are its goal
   pub record Ready (table : TileTable X T Q g) (suits : List T → Type 0) (finished : List T → List T) (seat : Seat X T Q g) : Type 0 where
     pub at : IsAt table seat
     pub hand : (view seat).hand ≡ Empty
     pub fits : suits (view seat).world
     pub goal : (view seat).goal ≡ finished (view seat).world
 
-  -- a seat after its work: at its table, with no turn, and with the same lists of tiles and range
+  -- a seat after its work: at its table, with no lock, and with the same lists of tiles and range
   pub record Worked (before after : Seat X T Q g) : Type 0 where
     pub table : seat_name after ≡ seat_name before
     pub hand : (view after).hand ≡ Empty
@@ -32,7 +48,7 @@ module _ {X T Q : Type 0} {g : Ghosts X T Q} where
 module _ {T : Type 0} where
   -- the seat has the claim of the place, or met another's
   abbrev pub Visited : View T → ℕ → Type 0
-  Visited v i = ((by : ℕ) × (0 < pairs by i v.claims)) ⊎ ((by : ℕ) × (0 < pairs i by v.seen))
+  Visited v i = ((by : ℕ) × (0 < pairs_in by i v.claims)) ⊎ ((by : ℕ) × (0 < pairs_in i by v.seen))
 
   -- what became of a tile that the seat had claimed: it was finished, or it was put off since tries were lost
   abbrev pub Ended : Bool → View T → ℕ → View T → Type 0
@@ -43,8 +59,8 @@ module _ {T : Type 0} where
   pub record ClaimedNow (before : View T) (i : ℕ) (after : View T) : Type 0 where
     pub claims : after.claims ≡ before.claims ++ (before.first, i) ∷ []
     pub seen : after.seen ≡ before.seen
-    pub unclaimed : (by : ℕ) → pairs by i before.claims ≡ 0
-    pub unmarked : times i before.marks ≡ 0
+    pub unclaimed : (by : ℕ) → pairs_in by i before.claims ≡ 0
+    pub unmarked : times_in i before.marks ≡ 0
 
   -- what a worker did at a place
   abbrev pub Visits : Visit → View T → ℕ → View T → Type 0
@@ -60,18 +76,18 @@ module _ {T : Type 0} where
 
   -- each tile that was claimed is finished
   abbrev pub FinishesClaims : View T → Type 0
-  FinishesClaims v = (by i : ℕ) → 0 < pairs by i v.claims → 0 < times i v.marks
+  FinishesClaims v = (by i : ℕ) → 0 < pairs_in by i v.claims → 0 < times_in i v.marks
 
   -- places that the seat has claimed and not finished, each of them once
   abbrev pub Waiting : View T → List ℕ → Type 0
   Waiting v places =
-      (i : ℕ) → 0 < times i places → (i < length v.world) × (0 < pairs v.first i v.claims) × (times i v.marks + times i places ≡ 1)
+      (i : ℕ) → 0 < times_in i places → (i < length v.world) × (0 < pairs_in v.first i v.claims) × (times_in i v.marks + times_in i places ≡ 1)
 
   -- the claims are the same, and those of others that were met. The marks may be more
   pub record Finishes (before after : View T) : Type 0 where
     pub claims : after.claims ≡ before.claims
     pub seen : after.seen ≡ before.seen
-    pub marks : (i : ℕ) → times i before.marks ≤ times i after.marks
+    pub marks : (i : ℕ) → times_in i before.marks ≤ times_in i after.marks
     pub many : length before.marks ≤ length after.marks
 
   -- a worker that had memory enough went over these places

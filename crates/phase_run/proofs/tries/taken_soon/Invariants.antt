@@ -1,7 +1,7 @@
 use Rattle.std.proofs.Common.{◌≡◌}
 use Rattle.tile_table.specs.Seats.{view, seat_name}
 use Rattle.phase_run.proofs.Looking.{Trying}
-use Rattle.phase_run.proofs.tries.turn_of.Given as goal
+use Rattle.phase_run.proofs.tries.taken_soon.Given as goal
 
 abbrev pub invariant-loop-tried : goal.invariant-loop-tried
 invariant-loop-tried g l =

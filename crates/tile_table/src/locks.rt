@@ -3,22 +3,22 @@
 ghost use Rattle.std.specs.Prelude.{◌≡◌, ℕ, ◌<◌, [], ◌∷◌, length, Some, None, IfOk, IfErr};
 ghost use Rattle.tile_machine.specs.At.{At};
 ghost use Rattle.tile_table.specs.declared.view.Hand.{Hand};
-ghost use Rattle.tile_table.specs.Counts.{bit, times, pairs};
+ghost use Rattle.tile_table.specs.Counts.{bit, times_in, pairs_in};
 ghost use Rattle.tile_table.specs.Views.{with_no_hand, with_mark};
 ghost use Rattle.tile_table.specs.Seats.{view, table_name, seat_name, IsAt, turn_place, turn_tile, turn_marked, HasTurn};
-ghost use Rattle.tile_table.specs.Calls.{TurnHad, TurnMissed, PartSeen, LookedAt};
+ghost use Rattle.tile_table.specs.Calls.{TurnHad, LockMissed, PartSeen, LookedAt};
 
 use crate::answer::{Busy, Unseen};
-use crate::plays::{FreeTurn, SetMark, TryMarked, TryUnmarked};
+use crate::plays::{FreeLock, SetMark, TryMarked, TryUnmarked};
 use crate::seat::{Seat, Turn};
 use crate::table::TileTable;
 use crate::view::View;
 use atomic_table::Seat as Place;
 use std::alloc::Global;
-use tile_machine::phase::Phase;
+use tile_machine::Phase;
 
-/// The number that a turn word has where the turn is free.
-fn free_turn(marked: bool) -> u64
+/// The number that a lock word has where the lock is free.
+fn free_lock(marked: bool) -> u64
     ensures { result ≡ bit marked }
 {
     if marked { 1 } else { 0 }
@@ -65,14 +65,14 @@ impl<P: Phase> TileTable<P> {
         }
     }
 
-    // The turn of place `j`, with its tile.
+    // The lock of place `j`, with its tile.
     fn reached(&self, seat: &mut Seat<P>, j: u64) -> Result<Turn<P>, Busy>
         requires table { IsAt self.now seat.old }
         requires hand { (view seat.old).hand ≡ Hand.Empty }
         requires place { j < length (view seat.old).world }
         ensures table { seat_name seat.new ≡ seat_name seat.old }
         ensures turn { IfOk result (λ turn. TurnHad (view seat.old) j turn (view seat.new)) }
-        ensures busy { IfErr result (λ busy. TurnMissed (view seat.old) j busy.holder (view seat.new)) }
+        ensures busy { IfErr result (λ busy. LockMissed (view seat.old) j busy.holder (view seat.new)) }
     {
         let number = seat.number;
         let word = 3 * j as usize + 1;
@@ -91,21 +91,21 @@ impl<P: Phase> TileTable<P> {
         Ok(self.brought_out(&mut seat.seat, j, true))
     }
 
-    /// Takes the turn of place `j`, which the seat has claimed, with its whole tile. `Busy` names a worker whose number isn't in
+    /// Takes the lock of place `j`, which the seat has claimed, with its whole tile. `Busy` names a worker whose number isn't in
     /// the seat's range. So a seat with all the numbers is never told so.
     pub fn take(&self, seat: &mut Seat<P>, j: u64) -> Result<Turn<P>, Busy>
         requires table { IsAt self.now seat.old }
         requires hand { (view seat.old).hand ≡ Hand.Empty }
         requires place { j < length (view seat.old).world }
-        requires claimed { 0 < pairs (view seat.old).first j (view seat.old).claims }
+        requires claimed { 0 < pairs_in (view seat.old).first j (view seat.old).claims }
         ensures table { seat_name seat.new ≡ seat_name seat.old }
         ensures turn { IfOk result (λ turn. TurnHad (view seat.old) j turn (view seat.new)) }
-        ensures busy { IfErr result (λ busy. TurnMissed (view seat.old) j busy.holder (view seat.new)) }
+        ensures busy { IfErr result (λ busy. LockMissed (view seat.old) j busy.holder (view seat.new)) }
     {
         self.reached(seat, j)
     }
 
-    /// The part of the tile at place `j` that the phase lets others read. Its turn is taken for that, and given back. It shows the
+    /// The part of the tile at place `j` that the phase lets others read. Its lock is taken for that, and given back. It shows the
     /// same of the world's tile and of the finished one, where the phase keeps it as it is.
     pub fn look(
         &self,
@@ -136,7 +136,7 @@ impl<P: Phase> TileTable<P> {
         }
     }
 
-    /// Gives a turn back, with its tile.
+    /// Gives a lock back, with its tile.
     pub fn give(&self, seat: &mut Seat<P>, turn: Turn<P>)
         requires table { IsAt self.now seat.old }
         requires turn { HasTurn (view seat.old) turn }
@@ -150,16 +150,16 @@ impl<P: Phase> TileTable<P> {
         } = turn;
         let shared = &self.table.shared;
         let _ = shared.exchange(&mut seat.seat, place as usize, Some(shown));
-        shared.store::<FreeTurn>(&mut seat.seat, 3 * place as usize + 1, free_turn(marked));
+        shared.store::<FreeLock>(&mut seat.seat, 3 * place as usize + 1, free_lock(marked));
     }
 
-    /// Marks a tile that the seat has claimed as finished, puts the finished tile in its place and gives the turn back. The
+    /// Marks a tile that the seat has claimed as finished, puts the finished tile in its place and gives the lock back. The
     /// answer is the tile that was there.
     pub fn finish(&self, seat: &mut Seat<P>, turn: Turn<P>, tile: P::Tile) -> P::Tile
         requires table { IsAt self.now seat.old }
         requires turn { HasTurn (view seat.old) turn }
-        requires claimed { 0 < pairs (view seat.old).first (turn_place turn) (view seat.old).claims }
-        requires unmarked { times (turn_place turn) (view seat.old).marks ≡ 0 }
+        requires claimed { 0 < pairs_in (view seat.old).first (turn_place turn) (view seat.old).claims }
+        requires unmarked { times_in (turn_place turn) (view seat.old).marks ≡ 0 }
         requires finished { At (view seat.old).goal (turn_place turn) tile }
         ensures table { seat_name seat.new ≡ seat_name seat.old }
         ensures view { view seat.new ≡ with_no_hand (with_mark (view seat.old) (turn_place turn)) }
@@ -173,7 +173,7 @@ impl<P: Phase> TileTable<P> {
         let shared = &self.table.shared;
         shared.store::<SetMark>(&mut seat.seat, 3 * place as usize + 2, 1);
         let _ = shared.exchange(&mut seat.seat, place as usize, Some(tile));
-        shared.store::<FreeTurn>(&mut seat.seat, 3 * place as usize + 1, free_turn(true));
+        shared.store::<FreeLock>(&mut seat.seat, 3 * place as usize + 1, free_lock(true));
         before
     }
 }

@@ -1,4 +1,4 @@
--- what stays while a worker looks at the tiles of others: the laws that its parts owe
+-- What stays while a seat looks at the tiles of others, over one look and over several.
 use Rattle.std.specs.Prelude.{◌≡◌, true, List, length, map, refl}
 use Rattle.std.proofs.Common.{◌∙◌, ap, sym}
 use Rattle.std.proofs.lemmas.List.{length-map}
@@ -9,7 +9,7 @@ use Rattle.tile_table.specs.declared.view.Hand.{Hand}
 use Rattle.tile_table.specs.declared.view.Hand.TheVariants.{Empty, Holds}
 use Rattle.tile_table.specs.declared.seat.Seat.{Seat}
 use Rattle.tile_table.specs.Seats.{view}
-use Rattle.phase_run.specs.Looks.{is_empty, IsAlone, Loses, Unchanged, Looked, Shown}
+use Rattle.tile_table.specs.Stays.{is_empty, IsAlone, Loses, Unchanged, Looked, Shown}
 
 pub no-hand : (hand : Hand) → is_empty hand ≡ true → hand ≡ Empty
 no-hand Empty e = refl

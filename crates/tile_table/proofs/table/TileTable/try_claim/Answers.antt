@@ -1,7 +1,7 @@
 use Rattle.std.proofs.Common.{◌≡◌, length, refl, ap, sym, ◌∙◌, arith}
 use Rattle.tile_table.proofs.Moves.{claims}
 use Rattle.tile_table.proofs.Told.{claim-stays, claim-fits, claim-mine, claim-taken, has-claim}
-use Rattle.tile_table.proofs.table.TileTable.claim.Goals as goal
+use Rattle.tile_table.proofs.table.TileTable.try_claim.Goals as goal
 
 pub compare_exchange-found-requires : goal.compare_exchange-found-requires
 compare_exchange-found-requires g c =

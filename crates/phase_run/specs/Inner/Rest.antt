@@ -1,4 +1,4 @@
--- the tiles of a table at its end, some of them not finished yet
+-- The tiles of a table at its end, some of them not finished yet.
 use Rattle.std.specs.Prelude.{◌≡◌, ℕ, Bool, List, length}
 use Rattle.std.proofs.Math.ListN.{get_elem?}
 use Rattle.tile_machine.specs.At.{At}
