@@ -1,17 +1,18 @@
--- Why a command isn't done: the status that the program ends with, and the line that it says.
+-- Why a command failed: the status that the program ends with, and the line that it says.
 use Rattle.std.specs.Prelude.{ℕ, nat_lt, if◌then◌else◌, List, [], ◌∷◌, ◌++◌, map, codes}
-use Rattle.std.specs.Fmt.{decimal, signed_decimal}
+use Rattle.std.specs.Fmt.{signed_decimal}
 use Rattle.host_port.specs.declared.host.HostFault.{HostFault}
 use Rattle.host_port.specs.declared.host.HostFault.TheVariants as host_faults
 use Rattle.pbf_blobs.specs.declared.fault.PbfFault.{PbfFault}
 use Rattle.osm_blocks.specs.declared.fault.ExtractFault.{ExtractFault}
 use Rattle.osm_blocks.specs.declared.fault.ExtractFault.TheVariants as faults
 use Rattle.osm_blocks.specs.Faults.{framed_as}
+use Rattle.osm_blocks.specs.FaultLines.{kind_name, extract_fault_line}
 use Rattle.road_pieces.specs.declared.faults.CutFault.{CutFault}
 use Rattle.road_pieces.specs.declared.faults.CutFault.TheVariants as cut_faults
+use Rattle.road_pieces.specs.FaultLines.{cut_fault_line}
 use Rattle.mjolnir_cli.specs.declared.failure.Failure.{Failure}
 use Rattle.mjolnir_cli.specs.declared.failure.Failure.TheVariants.{Words, Read, Put, Extract, NotBuilt, Pieces, EdgeTooLong, OutOfMemory}
-use Rattle.mjolnir_cli.specs.FaultTexts.{fault_text, kind_word}
 
 -- what a failure is due to
 pub data Cause : Type 0 where
@@ -46,19 +47,19 @@ status_for OfMemory = 7
 abbrev pub status_of : Failure → ℕ
 status_of failure = status_for (cause_of failure)
 
--- the text of the line, without its end
+-- The text of the line, without its end. A fault of the input, and a limit of its roads, is said by the crate that
+-- finds it; the status stands before it.
 abbrev pub text_of : Failure → List ℕ
 text_of Words = codes "error 2 words"
 text_of Read = codes "error 3 read"
 text_of Put = codes "error 4 put"
-text_of (Extract fault) = codes "error 5 " ++ fault_text fault
-text_of (NotBuilt kind id) = codes "error 5 NotBuilt kind=" ++ (kind_word kind ++ (codes " id=" ++ signed_decimal id))
-text_of (Pieces count) = codes "error 6 Pieces count=" ++ decimal count
-text_of (EdgeTooLong way run piece cm) =
-    codes "error 6 EdgeTooLong way=" ++ (signed_decimal way ++ (codes " run=" ++ (decimal run ++ (codes " piece=" ++ (decimal piece ++ (codes " cm=" ++ decimal cm))))))
+text_of (Extract fault) = codes "error 5 " ++ extract_fault_line fault
+text_of (NotBuilt kind id) = codes "error 5 NotBuilt kind=" ++ (kind_name kind ++ (codes " id=" ++ signed_decimal id))
+text_of (Pieces count) = codes "error 6 " ++ cut_fault_line (cut_faults.TooManyPieces count)
+text_of (EdgeTooLong way run piece cm) = codes "error 6 " ++ cut_fault_line (cut_faults.EdgeTooLong way run piece cm)
 text_of OutOfMemory = codes "error 7 memory"
 
--- a byte as it is said: `?` in place of a control character
+-- a byte as it is said: `?` in place of a byte below 32
 abbrev pub printable : ℕ → ℕ
 printable byte = if nat_lt byte 32 then 63 else byte
 

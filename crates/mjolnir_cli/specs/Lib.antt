@@ -1,6 +1,5 @@
 pub mod Words
 pub mod Commands
-pub mod FaultTexts
 pub mod Failures
 pub mod PlainList
 pub mod Unbuilt

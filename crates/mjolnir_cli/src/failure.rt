@@ -1,23 +1,24 @@
-//! Why a command isn't done.
+//! Why a command failed.
 
-ghost use Rattle.std.specs.Prelude.{◌≡◌, ◌++◌, map, Some, IfOk, OnOk};
+ghost use Rattle.std.specs.Prelude.{◌≡◌, ◌++◌, map, codes, pos, neg_ℤ, Some, IfOk, OnOk};
 ghost use Rattle.osm_blocks.specs.Faults.{framed_as};
 ghost use Rattle.mjolnir_cli.specs.Failures.{status_of, text_of, line_of, printable, of_host, of_put, of_pbf, of_extract, of_cut};
-ghost use Rattle.mjolnir_cli.specs.declared.failure.Failure.TheVariants.{OutOfMemory};
+ghost use Rattle.osm_blocks.specs.declared.fault.ExtractFault.TheVariants.{Truncated};
+ghost use Rattle.osm_model.specs.declared.relations.MemberKind.TheVariants.{Node, Way, Relation};
+ghost use Rattle.mjolnir_cli.specs.declared.failure.Failure.TheVariants.{Words, Read, Put, Extract, NotBuilt, Pieces, EdgeTooLong, OutOfMemory};
 
-use crate::fault_text::{FaultText, kind_word};
 use host_port::HostFault;
-use osm_blocks::ExtractFault;
+use osm_blocks::{ExtractFault, kind_name};
 use osm_model::MemberKind;
 use pbf_blobs::PbfFault;
 use road_pieces::CutFault;
 use std::alloc::{AllocError, Global};
 use std::fmt;
 
-/// Why a command isn't done. The program ends with its status, and says its line.
+/// Why a command failed. The program ends with its status, and says its line.
 #[derive(Debug, PartialEq, Eq, Drop)]
 pub enum Failure {
-    /// The words ask for nothing that the program does.
+    /// The arguments name no command.
     Words,
     /// The host counted a fault of reading.
     Read,
@@ -63,7 +64,7 @@ impl Failure {
         }
     }
 
-    /// The line that the program says, with its end. A control character is said as `?`, so that it is one line.
+    /// The line that the program says, with its end. A byte below 32 is said as `?`, so that it is one line.
     pub fn line(&self, alloc: Global) -> Result<Vec<u8>, AllocError>
         ensures { IfOk result (λ line. line.items ≡ line_of self.now) }
     {
@@ -85,7 +86,7 @@ impl Failure {
     }
 }
 
-/// Adds these bytes as they are said: `?` in place of a control character.
+/// Adds these bytes as they are said: `?` in place of a byte below 32.
 fn push_printable(line: &mut Vec<u8>, text: &[u8]) -> Result<(), AllocError>
     ensures { OnOk result (line.new.items ≡ line.old.items ++ map printable text.now) }
 {
@@ -113,24 +114,46 @@ impl fmt::Display for Failure {
             Failure::Words => write!(f, "error 2 words"),
             Failure::Read => write!(f, "error 3 read"),
             Failure::Put => write!(f, "error 4 put"),
-            Failure::Extract { fault } => write!(f, "error 5 {}", FaultText { fault }),
+            Failure::Extract { fault } => write!(f, "error 5 {fault}"),
             Failure::NotBuilt { kind, id } => {
-                write!(f, "error 5 NotBuilt kind={} id={id}", kind_word(*kind))
+                write!(f, "error 5 NotBuilt kind={} id={id}", kind_name(*kind))
             }
-            Failure::Pieces { count } => write!(f, "error 6 Pieces count={count}"),
+            Failure::Pieces { count } => {
+                let fault = CutFault::TooManyPieces { count: *count };
+                write!(f, "error 6 {fault}")
+            }
             Failure::EdgeTooLong {
                 way,
                 run,
                 piece,
                 cm,
-            } => write!(
-                f,
-                "error 6 EdgeTooLong way={way} run={run} piece={piece} cm={cm}"
-            ),
+            } => {
+                let fault = CutFault::EdgeTooLong {
+                    way: *way,
+                    run: *run,
+                    piece: *piece,
+                    cm: *cm,
+                };
+                write!(f, "error 6 {fault}")
+            }
             Failure::OutOfMemory => write!(f, "error 7 memory"),
         }
     }
 }
+
+/// A line of each failure, without its end. The call runs no code: its contract is what it is for.
+pub fn failure_lines()
+    ensures words { text_of Words ≡ codes "error 2 words" }
+    ensures read { text_of Read ≡ codes "error 3 read" }
+    ensures put { text_of Put ≡ codes "error 4 put" }
+    ensures extract { text_of (Extract (Truncated 17)) ≡ codes "error 5 Truncated at=17" }
+    ensures node_not_built { text_of (NotBuilt Node (neg_ℤ (pos 7))) ≡ codes "error 5 NotBuilt kind=node id=-7" }
+    ensures way_not_built { text_of (NotBuilt Way (pos 7)) ≡ codes "error 5 NotBuilt kind=way id=7" }
+    ensures relation_not_built { text_of (NotBuilt Relation (pos 7)) ≡ codes "error 5 NotBuilt kind=relation id=7" }
+    ensures pieces { text_of (Pieces 4_000_001) ≡ codes "error 6 Pieces count=4000001" }
+    ensures edge_too_long { text_of (EdgeTooLong (pos 10) 0 0 268_435_456) ≡ codes "error 6 EdgeTooLong way=10 run=0 piece=0 cm=268435456" }
+    ensures memory { text_of OutOfMemory ≡ codes "error 7 memory" }
+{}
 
 impl From<HostFault> for Failure {
     ghost from_gives = { λ fault made. made ≡ of_host fault };
@@ -143,7 +166,7 @@ impl From<HostFault> for Failure {
     }
 }
 
-/// What a fault of the framing is to a reader of extracts.
+/// Converts a framing fault into an extract fault.
 fn framed(fault: PbfFault) -> ExtractFault
     ensures { result ≡ framed_as fault }
 {

@@ -6,7 +6,6 @@ mod blobs;
 mod build;
 mod deliver;
 mod failure;
-mod fault_text;
 mod law;
 mod plain;
 mod put;
@@ -18,7 +17,7 @@ mod unbuilt;
 mod words;
 
 pub use answer::Answer;
-pub use failure::Failure;
+pub use failure::{Failure, failure_lines};
 pub use law::{one_end, some_end};
 pub use top::{mjolnir, wordless};
 pub use words::{Command, asked};

@@ -10,3 +10,4 @@ pub mod Whole
 pub mod OfBytes
 pub mod WithinLimits
 pub mod ContentLaw
+mod FaultLinesKept

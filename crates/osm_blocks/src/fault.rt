@@ -2,6 +2,7 @@
 
 ghost use Rattle.std.specs.Prelude.{◌≡◌};
 ghost use Rattle.osm_blocks.specs.Faults.{framed_as, spelled_as, meant_as};
+ghost use Rattle.osm_blocks.specs.FaultLines.{kind_name, counted_name};
 
 use osm_messages::MessageFault;
 use osm_model::{MemberKind, TagText};
@@ -62,7 +63,7 @@ pub enum ExtractFault {
     Uneven { at: u64 },
     /// Two objects of one kind have one id: the least such id of the first such kind.
     DuplicateId { kind: MemberKind, id: i64 },
-    /// The node of this id is at no place on the earth.
+    /// The node's coordinates are outside ±90 and ±180 degrees.
     BadCoordinate { id: i64 },
     /// There are more of these than an extract may have.
     TooMany { what: Counted, count: u64 },
@@ -117,83 +118,110 @@ pub fn meant(fault: ObjectFault) -> ExtractFault
     }
 }
 
-impl fmt::Display for Counted {
-    fn fmt<W: fmt::Write>(&self, f: &mut fmt::Formatter<W>) -> fmt::Result {
-        match self {
-            Counted::Nodes => write!(f, "nodes"),
-            Counted::Ways => write!(f, "ways"),
-            Counted::Relations => write!(f, "relations"),
-            Counted::Refs => write!(f, "refs"),
-            Counted::Members => write!(f, "members"),
-            Counted::Tags => write!(f, "tags"),
-        }
-    }
-}
-
-/// The word for objects of a kind.
-fn word(kind: MemberKind) -> &'static str {
+/// The name of an object of a kind.
+pub fn kind_name(kind: MemberKind) -> &'static str
+    ensures { result.now ≡ kind_name kind }
+{
     match kind {
-        MemberKind::Node => "nodes",
-        MemberKind::Way => "ways",
-        MemberKind::Relation => "relations",
+        MemberKind::Node => "node",
+        MemberKind::Way => "way",
+        MemberKind::Relation => "relation",
     }
 }
 
+/// The name of what is counted.
+fn counted_name(what: Counted) -> &'static str
+    ensures { result.now ≡ counted_name what }
+{
+    match what {
+        Counted::Nodes => "nodes",
+        Counted::Ways => "ways",
+        Counted::Relations => "relations",
+        Counted::Refs => "refs",
+        Counted::Members => "members",
+        Counted::Tags => "tags",
+    }
+}
+
+/// The fault as the program says it: its name, and what it names. What a layer below finds is said by that layer.
 impl fmt::Display for ExtractFault {
+    ghost use Rattle.std.specs.Prelude.{Some};
+    ghost use Rattle.osm_blocks.specs.FaultLines.{extract_fault_line};
+
+    ghost output = { λ fault. Some (extract_fault_line fault) };
+
     fn fmt<W: fmt::Write>(&self, f: &mut fmt::Formatter<W>) -> fmt::Result {
         match self {
-            ExtractFault::Read => write!(f, "the input can't be read"),
-            ExtractFault::Truncated { at } => write!(
-                f,
-                "the input ends inside what begins at {at}"
-            ),
-            ExtractFault::HeaderTooLong { at, len } => write!(
-                f,
-                "the header of the triple at {at} has {len} bytes"
-            ),
-            ExtractFault::BlobTooLong { at, len } => write!(
-                f,
-                "the blob of the triple at {at} has {len} bytes"
-            ),
-            ExtractFault::Compressed { at, field } => write!(
-                f,
-                "the blob at {at} is compressed, in field {field}"
-            ),
-            ExtractFault::Wire { fault } => write!(f, "{fault}"),
-            ExtractFault::NoPayload { at } => write!(f, "the blob at {at} has no payload"),
-            ExtractFault::TooLarge { bytes } => write!(f, "a blob would end at {bytes}"),
-            ExtractFault::OutOfMemory => write!(f, "out of memory"),
-            ExtractFault::MissingField { at, number } => write!(
-                f,
-                "what begins at {at} has no field {number}"
-            ),
-            ExtractFault::BadType { at } => write!(f, "the type in the header at {at} isn't UTF-8"),
-            ExtractFault::NoHeader { at } => write!(f, "no header block comes before {at}"),
-            ExtractFault::Feature { at, text } => write!(
-                f,
-                "the feature {} at {at} isn't read",
-                text.as_str()
-            ),
-            ExtractFault::BadString { at, index } => write!(
-                f,
-                "the object at {at} names text {index}, which isn't there or isn't UTF-8"
-            ),
-            ExtractFault::Uneven { at } => write!(f, "the lists of the object at {at} don't fit"),
-            ExtractFault::DuplicateId { kind, id } => write!(
-                f,
-                "two {} have the id {id}",
-                word(*kind)
-            ),
-            ExtractFault::BadCoordinate { id } => write!(f, "the node {id} is at no place"),
-            ExtractFault::TooMany { what, count } => write!(f, "there are {count} {what}"),
-            ExtractFault::Repeated { at, number } => write!(
-                f,
-                "the field {number} at {at} comes again"
-            ),
-            ExtractFault::BadNumber { at } => write!(
-                f,
-                "a sum of differences in the object at {at} is no signed number of 64 bits"
-            ),
+            ExtractFault::Read => write!(f, "{}", PbfFault::Read),
+            ExtractFault::Truncated { at } => write!(f, "{}", PbfFault::Truncated { at: *at }),
+            ExtractFault::HeaderTooLong { at, len } => {
+                write!(f, "{}", PbfFault::HeaderTooLong { at: *at, len: *len })
+            }
+            ExtractFault::BlobTooLong { at, len } => {
+                write!(f, "{}", PbfFault::BlobTooLong { at: *at, len: *len })
+            }
+            ExtractFault::Compressed { at, field } => {
+                write!(
+                    f,
+                    "{}",
+                    PbfFault::Compressed {
+                        at: *at,
+                        field: *field
+                    }
+                )
+            }
+            ExtractFault::Wire { fault } => write!(f, "{}", PbfFault::Wire { fault: *fault }),
+            ExtractFault::NoPayload { at } => write!(f, "{}", PbfFault::NoPayload { at: *at }),
+            ExtractFault::TooLarge { bytes } => {
+                write!(f, "{}", PbfFault::TooLarge { bytes: *bytes })
+            }
+            ExtractFault::OutOfMemory => write!(f, "{}", PbfFault::OutOfMemory),
+            ExtractFault::MissingField { at, number } => {
+                write!(
+                    f,
+                    "{}",
+                    PbfFault::MissingField {
+                        at: *at,
+                        number: *number
+                    }
+                )
+            }
+            ExtractFault::BadType { at } => write!(f, "{}", PbfFault::BadType { at: *at }),
+            ExtractFault::NoHeader { at } => write!(f, "NoHeader at={at}"),
+            ExtractFault::Feature { at, text } => {
+                write!(f, "Feature at={at} text={}", text.as_str())
+            }
+            ExtractFault::BadString { at, index } => {
+                write!(
+                    f,
+                    "{}",
+                    ObjectFault::BadString {
+                        at: *at,
+                        index: *index
+                    }
+                )
+            }
+            ExtractFault::Uneven { at } => write!(f, "{}", ObjectFault::Uneven { at: *at }),
+            ExtractFault::DuplicateId { kind, id } => {
+                write!(f, "DuplicateId kind={} id={id}", kind_name(*kind))
+            }
+            ExtractFault::BadCoordinate { id } => {
+                write!(f, "{}", ObjectFault::BadCoordinate { id: *id })
+            }
+            ExtractFault::TooMany { what, count } => {
+                write!(f, "TooMany what={} count={count}", counted_name(*what))
+            }
+            ExtractFault::Repeated { at, number } => {
+                write!(
+                    f,
+                    "{}",
+                    MessageFault::Repeated {
+                        at: *at,
+                        number: *number
+                    }
+                )
+            }
+            ExtractFault::BadNumber { at } => write!(f, "{}", ObjectFault::BadNumber { at: *at }),
         }
     }
 }

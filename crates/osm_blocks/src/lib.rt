@@ -5,13 +5,15 @@
 mod counts;
 mod draft;
 mod fault;
+mod fault_lines;
 mod features;
 mod law;
 mod lists;
 mod order;
 mod read;
 
-pub use fault::{Counted, ExtractFault};
+pub use fault::{Counted, ExtractFault, kind_name};
+pub use fault_lines::{extract_fault_lines, fault_lines_kept};
 pub use law::{content_law, reading_law};
 pub use read::read_extract;
 

@@ -42,14 +42,18 @@ impl<T: Drop> From<AllocFailed<T>> for MessageFault {
     }
 }
 
+/// The fault as the program says it: its name, and what it names.
 impl fmt::Display for MessageFault {
+    ghost use Rattle.std.specs.Prelude.{Some};
+    ghost use Rattle.osm_messages.specs.FaultLines.{message_fault_line};
+
+    ghost output = { λ fault. Some (message_fault_line fault) };
+
     fn fmt<W: fmt::Write>(&self, f: &mut fmt::Formatter<W>) -> fmt::Result {
         match self {
-            MessageFault::Wire { fault } => write!(f, "{fault}"),
-            MessageFault::Repeated { at, number } => {
-                write!(f, "the field {number} at {at} comes again")
-            }
-            MessageFault::OutOfMemory => write!(f, "out of memory"),
+            MessageFault::Wire { fault } => write!(f, "Wire fault={fault}"),
+            MessageFault::Repeated { at, number } => write!(f, "Repeated at={at} number={number}"),
+            MessageFault::OutOfMemory => write!(f, "OutOfMemory"),
         }
     }
 }

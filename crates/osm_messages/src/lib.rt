@@ -6,6 +6,7 @@
 
 mod block;
 mod fault;
+mod fault_lines;
 mod group;
 mod header;
 mod kind;
@@ -18,6 +19,7 @@ mod texts;
 
 pub use block::{RawBlock, read_block};
 pub use fault::MessageFault;
+pub use fault_lines::message_fault_lines;
 pub use header::read_features;
 pub use kind::ObjectKind;
 pub use law::block_law;

@@ -321,13 +321,13 @@ fn fault_texts(rt: HostRuntime) -> Result<(), Fail> {
             MessageFault::Wire {
                 fault: WireFault::Short { at: 3 },
             },
-            "the bytes end inside what begins at 3",
+            "Wire fault=Short at=3",
         ),
         (
             MessageFault::Repeated { at: 4, number: 1 },
-            "the field 1 at 4 comes again",
+            "Repeated at=4 number=1",
         ),
-        (MessageFault::OutOfMemory, "out of memory"),
+        (MessageFault::OutOfMemory, "OutOfMemory"),
     ] {
         let said = fault.to_string(rt.alloc())?;
         assert_eq!(rt; said.as_str(), text);

@@ -18,7 +18,7 @@ pub enum ObjectFault {
     BadNumber { at: u64 },
     /// The string table has no text with this index; or it has one that is kept and isn't UTF-8.
     BadString { at: u64, index: u64 },
-    /// The node with this id isn't at a place on the earth.
+    /// The node's coordinates are outside ±90 and ±180 degrees.
     BadCoordinate { id: i64 },
     /// There was no memory for the objects.
     OutOfMemory,
@@ -40,27 +40,23 @@ impl<T: Drop> From<AllocFailed<T>> for ObjectFault {
     }
 }
 
+/// The fault as the program says it: its name, and what it names.
 impl fmt::Display for ObjectFault {
+    ghost use Rattle.std.specs.Prelude.{Some};
+    ghost use Rattle.osm_objects.specs.FaultLines.{object_fault_line};
+
+    ghost output = { λ fault. Some (object_fault_line fault) };
+
     fn fmt<W: fmt::Write>(&self, f: &mut fmt::Formatter<W>) -> fmt::Result {
         match self {
             ObjectFault::MissingField { at, number } => {
-                write!(f, "what begins at {at} has no field {number}")
+                write!(f, "MissingField at={at} number={number}")
             }
-            ObjectFault::Uneven { at } => write!(f, "the lists of the object at {at} don't fit"),
-            ObjectFault::BadNumber { at } => {
-                write!(
-                    f,
-                    "a sum of differences in the object at {at} is no signed number of 64 bits"
-                )
-            }
-            ObjectFault::BadString { at, index } => {
-                write!(
-                    f,
-                    "the object at {at} names text {index}, which isn't there or isn't UTF-8"
-                )
-            }
-            ObjectFault::BadCoordinate { id } => write!(f, "the node {id} isn't on the earth"),
-            ObjectFault::OutOfMemory => write!(f, "out of memory"),
+            ObjectFault::Uneven { at } => write!(f, "Uneven at={at}"),
+            ObjectFault::BadNumber { at } => write!(f, "BadNumber at={at}"),
+            ObjectFault::BadString { at, index } => write!(f, "BadString at={at} index={index}"),
+            ObjectFault::BadCoordinate { id } => write!(f, "BadCoordinate id={id}"),
+            ObjectFault::OutOfMemory => write!(f, "OutOfMemory"),
         }
     }
 }

@@ -5,6 +5,7 @@
 mod dense;
 mod entry;
 mod fault;
+mod fault_lines;
 mod groups;
 mod kept;
 mod law;
@@ -19,6 +20,7 @@ mod texts;
 mod ways;
 
 pub use fault::ObjectFault;
+pub use fault_lines::object_fault_lines;
 pub use law::object_law;
 pub use objects::{ObjectLists, add_objects};
 

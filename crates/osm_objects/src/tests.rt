@@ -252,25 +252,16 @@ fn texts_of_faults(rt: HostRuntime) -> Result<(), Fail> {
     for (fault, text) in [
         (
             ObjectFault::MissingField { at: 58, number: 8 },
-            "what begins at 58 has no field 8",
+            "MissingField at=58 number=8",
         ),
-        (
-            ObjectFault::Uneven { at: 58 },
-            "the lists of the object at 58 don't fit",
-        ),
-        (
-            ObjectFault::BadNumber { at: 58 },
-            "a sum of differences in the object at 58 is no signed number of 64 bits",
-        ),
+        (ObjectFault::Uneven { at: 58 }, "Uneven at=58"),
+        (ObjectFault::BadNumber { at: 58 }, "BadNumber at=58"),
         (
             ObjectFault::BadString { at: 58, index: 9 },
-            "the object at 58 names text 9, which isn't there or isn't UTF-8",
+            "BadString at=58 index=9",
         ),
-        (
-            ObjectFault::BadCoordinate { id: -7 },
-            "the node -7 isn't on the earth",
-        ),
-        (ObjectFault::OutOfMemory, "out of memory"),
+        (ObjectFault::BadCoordinate { id: -7 }, "BadCoordinate id=-7"),
+        (ObjectFault::OutOfMemory, "OutOfMemory"),
     ] {
         assert!(rt; reads(rt.alloc(), fault, text)?, "{text}");
     }

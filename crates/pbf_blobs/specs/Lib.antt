@@ -7,3 +7,4 @@ pub mod Input
 pub mod Answers
 pub mod Means
 pub mod Frames
+pub mod FaultLines

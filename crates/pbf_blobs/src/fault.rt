@@ -23,7 +23,7 @@ pub enum PbfFault {
     BlobTooLong { at: u64, len: u64 },
     /// The Blob at the place `at` has a field 3 to 7, which holds a compressed payload.
     Compressed { at: u64, field: u32 },
-    /// A header or a Blob is no message.
+    /// The header or the Blob isn't a well-formed message.
     Wire { fault: WireFault },
     /// The Blob at the place `at` has no raw payload.
     NoPayload { at: u64 },
@@ -37,28 +37,29 @@ pub enum PbfFault {
     BadType { at: u64 },
 }
 
+/// The fault as the program says it: its name, and what it names.
 impl fmt::Display for PbfFault {
+    ghost use Rattle.std.specs.Prelude.{Some};
+    ghost use Rattle.pbf_blobs.specs.FaultLines.{pbf_fault_line};
+
+    ghost output = { λ fault. Some (pbf_fault_line fault) };
+
     fn fmt<W: fmt::Write>(&self, f: &mut fmt::Formatter<W>) -> fmt::Result {
         match self {
-            PbfFault::Read => write!(f, "the input can't be read"),
-            PbfFault::Truncated { at } => write!(f, "the input ends inside what begins at {at}"),
-            PbfFault::HeaderTooLong { at, len } => {
-                write!(f, "the header of the triple at {at} has {len} bytes")
-            }
-            PbfFault::BlobTooLong { at, len } => {
-                write!(f, "the blob of the triple at {at} has {len} bytes")
-            }
-            PbfFault::Compressed { at, field } => {
-                write!(f, "the blob at {at} is compressed, in field {field}")
-            }
-            PbfFault::Wire { fault } => write!(f, "{fault}"),
-            PbfFault::NoPayload { at } => write!(f, "the blob at {at} has no payload"),
-            PbfFault::TooLarge { bytes } => write!(f, "a blob would end at {bytes}"),
-            PbfFault::OutOfMemory => write!(f, "out of memory"),
-            PbfFault::MissingField { at, number } => {
-                write!(f, "the header at {at} has no field {number}")
-            }
-            PbfFault::BadType { at } => write!(f, "the type in the header at {at} isn't UTF-8"),
+            PbfFault::Read => write!(f, "Read"),
+            PbfFault::Truncated { at } => write!(f, "Truncated at={at}"),
+            PbfFault::HeaderTooLong { at, len } => write!(f, "HeaderTooLong at={at} len={len}"),
+            PbfFault::BlobTooLong { at, len } => write!(f, "BlobTooLong at={at} len={len}"),
+            PbfFault::Compressed { at, field } => write!(f, "Compressed at={at} field={field}"),
+            PbfFault::Wire { fault } => write!(f, "Wire fault={fault}"),
+            PbfFault::NoPayload { at } => write!(f, "NoPayload at={at}"),
+            PbfFault::TooLarge { bytes } => write!(f, "TooLarge bytes={bytes}"),
+            PbfFault::OutOfMemory => write!(f, "OutOfMemory"),
+            PbfFault::MissingField { at, number } => write!(
+                f,
+                "MissingField at={at} number={number}"
+            ),
+            PbfFault::BadType { at } => write!(f, "BadType at={at}"),
         }
     }
 }

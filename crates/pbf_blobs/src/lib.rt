@@ -4,6 +4,7 @@
 
 mod blob;
 mod fault;
+mod fault_lines;
 mod input;
 mod law;
 mod next;
@@ -12,6 +13,7 @@ mod walk;
 
 pub use blob::Blob;
 pub use fault::PbfFault;
+pub use fault_lines::pbf_fault_lines;
 pub use law::framing_law;
 pub use next::next_blob;
 

@@ -20,3 +20,4 @@ pub mod Counts
 pub mod NodeIndex
 pub mod NameRows
 pub mod PieceRows
+pub mod FaultLines

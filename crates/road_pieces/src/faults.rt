@@ -22,22 +22,23 @@ pub enum CutFault {
     OutOfMemory,
 }
 
+/// The fault as the program says it: its name, and what it names.
 impl fmt::Display for CutFault {
+    ghost use Rattle.std.specs.Prelude.{Some};
+    ghost use Rattle.road_pieces.specs.FaultLines.{cut_fault_line};
+
+    ghost output = { λ fault. Some (cut_fault_line fault) };
+
     fn fmt<W: fmt::Write>(&self, f: &mut fmt::Formatter<W>) -> fmt::Result {
         match self {
-            CutFault::TooManyPieces { count } => {
-                write!(f, "{count} pieces are more than 4000000")
-            }
+            CutFault::TooManyPieces { count } => write!(f, "Pieces count={count}"),
             CutFault::EdgeTooLong {
                 way,
                 run,
                 piece,
                 cm,
-            } => write!(
-                f,
-                "piece {piece} of run {run} of way {way} has {cm} cm, more than 268435455"
-            ),
-            CutFault::OutOfMemory => write!(f, "out of memory"),
+            } => write!(f, "EdgeTooLong way={way} run={run} piece={piece} cm={cm}"),
+            CutFault::OutOfMemory => write!(f, "OutOfMemory"),
         }
     }
 }

@@ -7,6 +7,7 @@ mod counts;
 mod courses;
 mod crossings;
 mod cutting;
+mod fault_lines;
 mod faults;
 mod laws;
 mod lines;
@@ -25,6 +26,7 @@ mod survey;
 mod tests;
 
 pub use cutting::cut;
+pub use fault_lines::cut_fault_lines;
 pub use faults::CutFault;
 pub use fixed_geo::Shape;
 pub use laws::{list_agrees, turns_agree, walks_agree};

@@ -299,7 +299,7 @@ fn texts(rt: HostRuntime) -> Result<(), Fail> {
     for (fault, text) in [
         (
             CutFault::TooManyPieces { count: 4_000_001 },
-            "4000001 pieces are more than 4000000",
+            "Pieces count=4000001",
         ),
         (
             CutFault::EdgeTooLong {
@@ -308,9 +308,9 @@ fn texts(rt: HostRuntime) -> Result<(), Fail> {
                 piece: 2,
                 cm: 268_435_456,
             },
-            "piece 2 of run 1 of way -7 has 268435456 cm, more than 268435455",
+            "EdgeTooLong way=-7 run=1 piece=2 cm=268435456",
         ),
-        (CutFault::OutOfMemory, "out of memory"),
+        (CutFault::OutOfMemory, "OutOfMemory"),
     ] {
         let said = fault.to_string(rt.alloc())?;
         assert_eq!(rt; said.as_str(), text);

@@ -16,13 +16,19 @@ pub enum WireFault {
     BadNumber { at: u64 },
 }
 
+/// The fault as the program says it: its name, and what it names.
 impl fmt::Display for WireFault {
+    ghost use Rattle.std.specs.Prelude.{Some};
+    ghost use Rattle.wire_read.specs.FaultLines.{wire_fault_line};
+
+    ghost output = { λ fault. Some (wire_fault_line fault) };
+
     fn fmt<W: fmt::Write>(&self, f: &mut fmt::Formatter<W>) -> fmt::Result {
         match self {
-            WireFault::Short { at } => write!(f, "the bytes end inside what begins at {at}"),
-            WireFault::LongVarint { at } => write!(f, "the varint at {at} has more than ten bytes"),
-            WireFault::BadWire { at, kind } => write!(f, "the field at {at} has wire type {kind}"),
-            WireFault::BadNumber { at } => write!(f, "the field at {at} has no field number"),
+            WireFault::Short { at } => write!(f, "Short at={at}"),
+            WireFault::LongVarint { at } => write!(f, "LongVarint at={at}"),
+            WireFault::BadWire { at, kind } => write!(f, "BadWire at={at} kind={kind}"),
+            WireFault::BadNumber { at } => write!(f, "BadNumber at={at}"),
         }
     }
 }

@@ -5,7 +5,6 @@ use super::HEADER;
 use super::builds::ends;
 use super::faults::{says, two_say};
 use super::plain_extract::data_triple;
-use crate::fault_text::FaultText;
 use osm_blocks::{Counted, ExtractFault};
 use std::alloc::{AllocError, Global};
 use std::test::Fail;
@@ -315,8 +314,7 @@ fn other_keys(rt: HostRuntime) -> Result<(), Fail> {
 
 /// Whether this fault is written so.
 fn reads(alloc: Global, fault: &ExtractFault, line: &str) -> Result<bool, AllocError> {
-    let text = FaultText { fault };
-    let said = text.to_string(alloc)?;
+    let said = fault.to_string(alloc)?;
     Ok(said.as_str() == line)
 }
 
