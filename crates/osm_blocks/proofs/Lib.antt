@@ -11,3 +11,5 @@ pub mod OfBytes
 pub mod WithinLimits
 pub mod ContentLaw
 mod FaultLinesKept
+pub mod RefusalLaw
+pub mod FileAnswers

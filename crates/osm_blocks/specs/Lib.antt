@@ -7,3 +7,4 @@ pub mod Steps
 pub mod ReadAnswers
 pub mod FileContent
 pub mod FaultLines
+pub mod FileFaults

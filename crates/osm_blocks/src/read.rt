@@ -1,14 +1,20 @@
 //! The whole file.
 
-ghost use Rattle.std.specs.Prelude.{◌≡◌, ◌+◌, ◌≤◌, ℕ, List, drop, false, Some, OnOk, IfOk, IfSome, MatchOption, length};
+ghost use Rattle.std.specs.Prelude.{◌≡◌, ◌+◌, ◌≤◌, ℕ, List, drop, false, Some, OnOk, IfOk, IfErr, IfSome, MatchOption, length};
 ghost use Rattle.host_port.specs.Told.{moved};
 ghost use Rattle.host_port.specs.HostState.{OnlyReads};
 ghost use Rattle.pbf_blobs.specs.Next.{next_of};
+ghost use Rattle.pbf_blobs.specs.Answers.{Where};
+ghost use Rattle.osm_blocks.specs.Extracts.{lists_of};
+ghost use Rattle.osm_blocks.specs.Faults.{is_of_bytes};
+ghost use Rattle.osm_blocks.specs.FileContent.{IsFileOf};
+ghost use Rattle.osm_blocks.specs.FileFaults.{IsFaultyFile};
 ghost use Rattle.osm_blocks.specs.Steps.{seen, ArePlaced};
 ghost use Rattle.osm_blocks.specs.ReadAnswers.{AddsNext, Answers, CountedRead, IfRead, bytes_to};
 
 use crate::draft::Draft;
-use crate::fault::{ExtractFault, framed};
+use crate::fault::ExtractFault;
+use crate::law::{content_law, refusal_law};
 use host_port::Host;
 use osm_model::Extract;
 use pbf_blobs::next_blob;
@@ -40,7 +46,7 @@ fn add_next<H: Host>(
             Err(fault) => Err(fault),
         },
         Ok(None) => Ok(None),
-        Err(fault) => Err(framed(fault)),
+        Err(fault) => Err(ExtractFault::from(fault)),
     }
 }
 
@@ -53,10 +59,17 @@ pub fn read_extract<H: Host>(alloc: Global, host: &mut H) -> Result<Extract, Ext
         Answers input result }
     ensures end { (input : List ℕ) → (H.state host.old).told.input ≡ Some input → (H.state host.old).told.place ≡ Some 0 →
         OnOk result ((H.state host.new).told.place ≡ Some (length input)) }
+    // The same in the words of the format. What a host tells are bytes, so no premise says so.
+    ensures file { (input : List ℕ) → (H.state host.old).told.input ≡ Some input → (H.state host.old).told.place ≡ Some 0 →
+        IfOk result (λ extract. IsFileOf input (lists_of extract)) }
+    ensures faulty { (input : List ℕ) → (H.state host.old).told.input ≡ Some input → (H.state host.old).told.place ≡ Some 0 →
+        IfErr result (λ fault. Where (is_of_bytes fault) (IsFaultyFile input fault)) }
     ensures frame { OnlyReads (H.state host.old) (H.state host.new) }
     ensures faults { CountedRead (H.state host.old).read_faults (H.state host.new).read_faults result }
     ensures cause { (H.state host.old).willing → IfRead result ((H.state host.old).told.is_open ≡ Some false) }
 {
+    content_law();
+    refusal_law();
     let mut draft = Draft::new(alloc);
     let mut at = 0;
     loop {

@@ -1,7 +1,8 @@
-use Rattle.std.proofs.Common.{◌≡◌, ◌∙◌, arith, length}
+use Rattle.std.proofs.Common.{◌≡◌, ◌∙◌, arith, length, Err}
 use Rattle.osm_blocks.specs.Faults.{is_of_bytes}
 use Rattle.osm_blocks.specs.Steps.{seen}
 use Rattle.osm_blocks.proofs.Prefix.{Leads-next, ReadTo-fails, ReadTo-ends, where_map}
+use Rattle.osm_blocks.proofs.FileAnswers.{file_answer, fault_answer}
 use Rattle.osm_blocks.proofs.read.read_extract.Goals as goal
 
 pub loop-end-preserved : goal.loop-end-preserved
@@ -33,3 +34,19 @@ returns-in-Err-clause-bytes g c = λ input i p.
     let l = c.loop-end.invariant.leads in
     let next = c.in-Err.ensures.bytes input (l.frame.input ∙ i) (l.place p) in
     where_map (is_of_bytes c.in-Err.fault) (λ fails. ReadTo-fails input c.loop-end.at (seen c.loop-end.draft) c.in-Err.fault (l.stands input i p).read fails) next
+
+-- what the host tells of its input is bytes
+pub returns-in-Ok-None-clause-file : goal.returns-in-Ok-None-clause-file
+returns-in-Ok-None-clause-file g c = λ input i p.
+    let are = (g.met.H.Host.tells_bytes c.args.host.now).input input i in
+    file_answer input c.finish.result (c.content_law.ensures input are) (returns-in-Ok-None-clause-bytes g c input i p)
+
+pub returns-in-Ok-None-clause-faulty : goal.returns-in-Ok-None-clause-faulty
+returns-in-Ok-None-clause-faulty g c = λ input i p.
+    let are = (g.met.H.Host.tells_bytes c.args.host.now).input input i in
+    fault_answer input c.finish.result (c.refusal_law.ensures input are) (returns-in-Ok-None-clause-bytes g c input i p)
+
+pub returns-in-Err-clause-faulty : goal.returns-in-Err-clause-faulty
+returns-in-Err-clause-faulty g c = λ input i p.
+    let are = (g.met.H.Host.tells_bytes c.args.host.now).input input i in
+    fault_answer input (Err c.in-Err.fault) (c.refusal_law.ensures input are) (returns-in-Err-clause-bytes g c input i p)
