@@ -10,7 +10,7 @@ use Rattle.tile_table.specs.declared.view.View.{View}
 use Rattle.tile_table.specs.declared.view.Hand.TheVariants.{Empty}
 use Rattle.tile_table.specs.declared.seat.Seat.{Seat}
 use Rattle.tile_table.specs.declared.seat.Turn.{Turn}
-use Rattle.tile_table.specs.Counts.{times_in, pairs_in}
+use Rattle.tile_table.specs.Counts.{times_in, pair_times}
 use Rattle.tile_table.specs.Views.{tiles_by, with_no_hand, IsAnother}
 use Rattle.tile_table.specs.Calls.{TurnHad, LockMissed, LockedOnce, PartSeen}
 use Rattle.tile_table.specs.Seats.{view, seat_name, turn_place, turn_tile, turn_marked}
@@ -155,9 +155,9 @@ module _ {T : Type 0} where
       (subst (λ ts. At (map readable (tiles_by seen.marked w.world ts)) j p) so_far.unchanged.goal seen.stands))
       shown.0 shown.1
 
-  pub claimed-kept : (v : View T) (j holder count : ℕ) (w : View T) → Trying v j holder count w → 0 < pairs_in v.first j v.claims → 0 < pairs_in w.first j w.claims
+  pub claimed-kept : (v : View T) (j holder count : ℕ) (w : View T) → Trying v j holder count w → 0 < pair_times v.first j v.claims → 0 < pair_times w.first j w.claims
   claimed-kept v j holder count w so_far claimed =
-      subst (λ n. 0 < pairs_in n j w.claims) (sym so_far.unchanged.first) (subst (λ cs. 0 < pairs_in v.first j cs) (sym so_far.unchanged.claims) claimed)
+      subst (λ n. 0 < pair_times n j w.claims) (sym so_far.unchanged.first) (subst (λ cs. 0 < pair_times v.first j cs) (sym so_far.unchanged.claims) claimed)
 
 module _ {X T Q : Type 0} where
   -- a lock that was had after these tries
@@ -185,7 +185,7 @@ module _ {X T Q : Type 0} where
         few = omega (arith, few, ap (λ x. length x.lost) e, ap length so_far.gained.gained, length-append v.lost so_far.gained.tries, so_far.gained.many);
         own_claim =
             λ claimed unmarked. had.own_claim
-            (subst (λ n. 0 < pairs_in n j w.claims) (sym same.first) (subst (λ cs. 0 < pairs_in v.first j cs) (sym same.claims) claimed))
+            (subst (λ n. 0 < pair_times n j w.claims) (sym same.first) (subst (λ cs. 0 < pair_times v.first j cs) (sym same.claims) claimed))
             (ap (λ ms. times_in j ms) same.marks ∙ unmarked);
       }
 
@@ -198,17 +198,17 @@ module _ {X T Q : Type 0} where
       (subst (λ n. At (tiles_by m w.world w.goal) n (turn_tile turn)) got.place got.turn.stands))
 
   -- a tile that the seat has claimed and not marked is the world's
-  pub reads-world : (v w : View T) (i : ℕ) (turn : Turn X T Q) (t : T) → TurnGot v i turn w → 0 < pairs_in v.first i v.claims → times_in i v.marks ≡ 0
+  pub reads-world : (v w : View T) (i : ℕ) (turn : Turn X T Q) (t : T) → TurnGot v i turn w → 0 < pair_times v.first i v.claims → times_in i v.marks ≡ 0
       → t ≡ turn_tile turn → At v.world i t
   reads-world v w i turn t got claimed unmarked is =
       subst (λ u. At v.world i u) (sym is)
       (subst (λ m. At (tiles_by m v.world v.goal) i (turn_tile turn)) (got.own_claim claimed unmarked) (stands-there v w i turn got))
 
   -- a lock of a place that was claimed, and not marked, is one of a claimed and unmarked place
-  pub claimed-still : (v w : View T) (i : ℕ) (turn : Turn X T Q) → TurnGot v i turn w → 0 < pairs_in v.first i v.claims → 0 < pairs_in w.first (turn_place turn) w.claims
+  pub claimed-still : (v w : View T) (i : ℕ) (turn : Turn X T Q) → TurnGot v i turn w → 0 < pair_times v.first i v.claims → 0 < pair_times w.first (turn_place turn) w.claims
   claimed-still v w i turn got claimed =
-      subst (λ n. 0 < pairs_in w.first n w.claims) (sym got.place)
-      (subst (λ n. 0 < pairs_in n i w.claims) (sym got.unchanged.first) (subst (λ cs. 0 < pairs_in v.first i cs) (sym got.unchanged.claims) claimed))
+      subst (λ n. 0 < pair_times w.first n w.claims) (sym got.place)
+      (subst (λ n. 0 < pair_times n i w.claims) (sym got.unchanged.first) (subst (λ cs. 0 < pair_times v.first i cs) (sym got.unchanged.claims) claimed))
 
   pub unmarked-still : (v w : View T) (i : ℕ) (turn : Turn X T Q) → TurnGot v i turn w → times_in i v.marks ≡ 0 → times_in (turn_place turn) w.marks ≡ 0
   unmarked-still v w i turn got unmarked =

@@ -11,8 +11,8 @@ use Rattle.tile_table.specs.declared.view.Hand.TheVariants.{Empty}
 use Rattle.tile_table.specs.declared.seat.Seat.{Seat}
 use Rattle.tile_table.specs.declared.seat.Closed.{Closed}
 use Rattle.tile_table.specs.declared.table.TileTable.{TileTable}
-use Rattle.tile_table.specs.Counts.{bit, same, times_in, pairs_in}
-use Rattle.tile_table.specs.Views.{opening_view, tiles_by, with_claim, with_seen, with_mark, with_no_hand, lower, upper, joined}
+use Rattle.tile_table.specs.Counts.{bit, same_bit, times_in, pair_times}
+use Rattle.tile_table.specs.Views.{opening_view, tiles_by, with_claim, with_seen, with_mark, with_no_hand, lower, upper, joined_views}
 use Rattle.tile_table.specs.Calls.{ClosedBy}
 use Rattle.tile_table.specs.Seats.{view, seat_name, IsAt}
 use Rattle.phase_run.specs.declared.worker.Visit.{Visit}
@@ -21,14 +21,14 @@ use Rattle.tile_table.specs.Stays.{IsAlone, Unchanged, Loses, Looked}
 use Rattle.phase_run.specs.Inner.Workers.{Ready, Worked, Visited, Ended, ClaimedNow, Visits, Accounts, Waiting, Finishes, GoesOver, WentOver, FinishesClaims}
 use Rattle.phase_run.specs.Inner.Rest.{TilesOf}
 
-pairs-more : (a b : ℕ) (xs ys : List (ℕ × ℕ)) → pairs_in a b xs ≤ pairs_in a b (xs ++ ys)
+pairs-more : (a b : ℕ) (xs ys : List (ℕ × ℕ)) → pair_times a b xs ≤ pair_times a b (xs ++ ys)
 pairs-more a b [] ys = omega arith
 pairs-more a b (p ∷ xs) ys = omega (arith, pairs-more a b xs ys)
 
-eqb-same : (a : ℕ) → same a a ≡ 1
+eqb-same : (a : ℕ) → same_bit a a ≡ 1
 eqb-same a = grind arith
 
-pairs-last : (a b : ℕ) (xs : List (ℕ × ℕ)) → 0 < pairs_in a b (xs ++ (a, b) ∷ [])
+pairs-last : (a b : ℕ) (xs : List (ℕ × ℕ)) → 0 < pair_times a b (xs ++ (a, b) ∷ [])
 pairs-last a b [] = grind arith
 pairs-last a b (p ∷ xs) = omega (arith, pairs-last a b xs)
 
@@ -44,27 +44,27 @@ times-append : (a : ℕ) (xs ys : List ℕ) → times_in a (xs ++ ys) ≡ times_
 times-append a [] ys = omega arith
 times-append a (x ∷ xs) ys = omega (arith, times-append a xs ys)
 
-same-ne : (a b : ℕ) → a ≢ b → same a b ≡ 0
+same-ne : (a b : ℕ) → a ≢ b → same_bit a b ≡ 0
 same-ne a b ne = ap bit (ne_eqb a b ne)
 
 -- a pair that stands in a list with one more at its end stands in the list, or is that one
-pairs-back : (a b c d : ℕ) (xs : List (ℕ × ℕ)) → 0 < pairs_in a b (xs ++ (c, d) ∷ []) → (0 < pairs_in a b xs) ⊎ (b ≡ d)
+pairs-back : (a b c d : ℕ) (xs : List (ℕ × ℕ)) → 0 < pair_times a b (xs ++ (c, d) ∷ []) → (0 < pair_times a b xs) ⊎ (b ≡ d)
 pairs-back a b c d [] h = inr (sym (second c a d b h))
   where
     second : (c a d b : ℕ) → 0 < bit ((c == a) && (d == b)) + 0 → d ≡ b
     second c a d b h = grind arith
 pairs-back a b c d (p ∷ xs) h =
-    elim ((p.0 == a) && (p.1 == b)) as (λ t. 0 < bit t + pairs_in a b (xs ++ (c, d) ∷ []) → (0 < bit t + pairs_in a b xs) ⊎ (b ≡ d)) [
+    elim ((p.0 == a) && (p.1 == b)) as (λ t. 0 < bit t + pair_times a b (xs ++ (c, d) ∷ []) → (0 < bit t + pair_times a b xs) ⊎ (b ≡ d)) [
       | true ↦ λ h. inl (omega arith)
       | false ↦ λ h. ⊎_elim (λ t. inl (omega (arith, t))) (λ e. inr e) (pairs-back a b c d xs (omega (arith, h)))
     ] h
 
 module _ {T : Type 0} where
-  pub claimed-still : (v w : View T) (by i : ℕ) (added : List (ℕ × ℕ)) → w.claims ≡ v.claims ++ added → 0 < pairs_in by i v.claims → 0 < pairs_in by i w.claims
-  claimed-still v w by i added e h = subst (λ xs. 0 < pairs_in by i xs) (sym e) (omega (arith, h, pairs-more by i v.claims added))
+  pub claimed-still : (v w : View T) (by i : ℕ) (added : List (ℕ × ℕ)) → w.claims ≡ v.claims ++ added → 0 < pair_times by i v.claims → 0 < pair_times by i w.claims
+  claimed-still v w by i added e h = subst (λ xs. 0 < pair_times by i xs) (sym e) (omega (arith, h, pairs-more by i v.claims added))
 
-  seen-still : (v w : View T) (i by : ℕ) (added : List (ℕ × ℕ)) → w.seen ≡ v.seen ++ added → 0 < pairs_in i by v.seen → 0 < pairs_in i by w.seen
-  seen-still v w i by added e h = subst (λ xs. 0 < pairs_in i by xs) (sym e) (omega (arith, h, pairs-more i by v.seen added))
+  seen-still : (v w : View T) (i by : ℕ) (added : List (ℕ × ℕ)) → w.seen ≡ v.seen ++ added → 0 < pair_times i by v.seen → 0 < pair_times i by w.seen
+  seen-still v w i by added e h = subst (λ xs. 0 < pair_times i by xs) (sym e) (omega (arith, h, pairs-more i by v.seen added))
 
   -- what was visited stays so where the lists grow
   pub visited-still : (v w : View T) (i : ℕ) (claims seen : List (ℕ × ℕ)) → w.claims ≡ v.claims ++ claims → w.seen ≡ v.seen ++ seen
@@ -75,7 +75,7 @@ module _ {T : Type 0} where
   claim-visited : (v w : View T) (i k : ℕ) → ClaimedNow v i w → (i ≡ k) ⊎ Visited v k → Visited w k
   claim-visited v w i k now h =
       ⊎_elim
-      (λ e. inl (v.first, subst (λ xs. 0 < pairs_in v.first k xs) (sym now.claims) (subst (λ n. 0 < pairs_in v.first k (v.claims ++ (v.first, n) ∷ [])) (sym e) (pairs-last v.first k v.claims))))
+      (λ e. inl (v.first, subst (λ xs. 0 < pair_times v.first k xs) (sym now.claims) (subst (λ n. 0 < pair_times v.first k (v.claims ++ (v.first, n) ∷ [])) (sym e) (pairs-last v.first k v.claims))))
       (λ before. visited-still v w k ((v.first, i) ∷ []) [] now.claims (now.seen ∙ sym (append-nil v.seen)) before)
       h
 
@@ -86,7 +86,7 @@ module _ {T : Type 0} where
   visit-adds Passed v w i k here h =
       let by = here.2 in
       ⊎_elim
-      (λ e. inr (by.0, subst (λ xs. 0 < pairs_in k by.0 xs) (sym by.1) (subst (λ n. 0 < pairs_in k by.0 (v.seen ++ (n, by.0) ∷ [])) (sym e) (pairs-last k by.0 v.seen))))
+      (λ e. inr (by.0, subst (λ xs. 0 < pair_times k by.0 xs) (sym by.1) (subst (λ n. 0 < pair_times k by.0 (v.seen ++ (n, by.0) ∷ [])) (sym e) (pairs-last k by.0 v.seen))))
       (λ before. visited-still v w k [] ((i, by.0) ∷ []) (here.0 ∙ sym (append-nil v.claims)) by.1 before)
       h
 
@@ -104,28 +104,28 @@ module _ {T : Type 0} where
       (⊎_elim
       (λ old. omega (arith, before by k old, times-more k v.marks (i ∷ [])))
       (λ e. subst (λ n. 0 < times_in k (v.marks ++ n ∷ [])) e (times-last k v.marks))
-      (pairs-back by k v.first i v.claims (subst (λ cs. 0 < pairs_in by k cs) c h)))
+      (pairs-back by k v.first i v.claims (subst (λ cs. 0 < pair_times by k cs) c h)))
 
   -- where no try is lost, each claim is followed by a mark
   finishes-more : (visit : Visit) (v w : View T) (i : ℕ) → Visits visit v i w → w.lost ≡ v.lost → FinishesClaims v → FinishesClaims w
   finishes-more Finished v w i here none before = finished-here v w i here.0.claims here.1 before
   finishes-more PutOff v w i here none before = absurd (omega (arith, ap length none, here.1.1))
   finishes-more Passed v w i here none before =
-      λ by k h. subst (λ ms. 0 < times_in k ms) (sym here.1) (before by k (subst (λ cs. 0 < pairs_in by k cs) here.0 h))
+      λ by k h. subst (λ ms. 0 < times_in k ms) (sym here.1) (before by k (subst (λ cs. 0 < pair_times by k cs) here.0 h))
 
   -- where the claims and marks are the same, the same places wait
   waits-same : (v w : View T) (places : List ℕ) → w.world ≡ v.world → w.first ≡ v.first → w.claims ≡ v.claims → w.marks ≡ v.marks → Waiting v places → Waiting w places
   waits-same v w places world first claims marks waiting i some_times =
       let h = waiting i some_times in (
         omega (arith, h.0, ap length world),
-        subst (λ n. 0 < pairs_in n i w.claims) (sym first) (subst (λ cs. 0 < pairs_in v.first i cs) (sym claims) h.1),
+        subst (λ n. 0 < pair_times n i w.claims) (sym first) (subst (λ cs. 0 < pair_times v.first i cs) (sym claims) h.1),
         omega (arith, h.2, ap (times_in i) marks),
       )
 
   -- none of them is the place that was just claimed
-  other-waits : (v : View T) (places : List ℕ) (i k : ℕ) → Waiting v places → ((by : ℕ) → pairs_in by i v.claims ≡ 0) → 0 < times_in k places → i ≢ k
+  other-waits : (v : View T) (places : List ℕ) (i k : ℕ) → Waiting v places → ((by : ℕ) → pair_times by i v.claims ≡ 0) → 0 < times_in k places → i ≢ k
   other-waits v places i k waiting unclaimed some_times e =
-      omega (arith, (waiting k some_times).1, subst (λ n. pairs_in v.first n v.claims ≡ 0) e (unclaimed v.first))
+      omega (arith, (waiting k some_times).1, subst (λ n. pair_times v.first n v.claims ≡ 0) e (unclaimed v.first))
 
   -- the places wait still, after another was claimed and maybe finished
   waits-claimed : (v w : View T) (places added : List ℕ) (i : ℕ) → w.world ≡ v.world → w.first ≡ v.first → ClaimedNow v i w → w.marks ≡ v.marks ++ added
@@ -134,7 +134,7 @@ module _ {T : Type 0} where
       let h = waiting k some_times in
       let ne = other-waits v places i k waiting now.unclaimed some_times in (
         omega (arith, h.0, ap length world),
-        subst (λ n. 0 < pairs_in n k w.claims) (sym first) (claimed-still v w v.first k ((v.first, i) ∷ []) now.claims h.1),
+        subst (λ n. 0 < pair_times n k w.claims) (sym first) (claimed-still v w v.first k ((v.first, i) ∷ []) now.claims h.1),
         omega (arith, h.2, ap (times_in k) marks, times-append k v.marks added, none k ne),
       )
 
@@ -152,8 +152,8 @@ module _ {T : Type 0} where
       dite (ℕ_discrete i k)
       (λ q. (
         omega (arith, inside, ap length world, q),
-        subst (λ n. 0 < pairs_in n k w.claims) (sym first)
-            (subst (λ cs. 0 < pairs_in v.first k cs) (sym here.0.claims) (subst (λ n. 0 < pairs_in v.first k (v.claims ++ (v.first, n) ∷ [])) (sym q) (pairs-last v.first k v.claims))),
+        subst (λ n. 0 < pair_times n k w.claims) (sym first)
+            (subst (λ cs. 0 < pair_times v.first k cs) (sym here.0.claims) (subst (λ n. 0 < pair_times v.first k (v.claims ++ (v.first, n) ∷ [])) (sym q) (pairs-last v.first k v.claims))),
         subst (λ n. times_in n w.marks + times_in n (places ++ i ∷ []) ≡ 1) q
             (omega (arith, ap (times_in i) here.1.0, here.0.unmarked, times-append i places (i ∷ []), eqb-same i, none-there)),
       ))
@@ -176,7 +176,7 @@ module _ {T : Type 0} where
 
   -- what is known of the last one
   pub last-waits : (v : View T) (places rest : List ℕ) (i : ℕ) → places ≡ rest ++ i ∷ [] → Waiting v places
-      → (i < length v.world) × (0 < pairs_in v.first i v.claims) × (times_in i v.marks ≡ 0) × (times_in i rest ≡ 0)
+      → (i < length v.world) × (0 < pair_times v.first i v.claims) × (times_in i v.marks ≡ 0) × (times_in i rest ≡ 0)
   last-waits v places rest i e waiting =
       let count : times_in i places ≡ times_in i rest + 1 = ap (times_in i) e ∙ times-append i rest (i ∷ []) ∙ omega (arith, eqb-same i) in
       let h = waiting i (omega (arith, count)) in
@@ -190,7 +190,7 @@ module _ {T : Type 0} where
       let ne : i ≢ k = λ q. omega (arith, some_times, subst (λ n. times_in n rest ≡ 0) q last.3) in
       let h = waiting k (omega (arith, ap (times_in k) e, times-append k rest (i ∷ []), some_times)) in (
         omega (arith, h.0, ap length world),
-        subst (λ n. 0 < pairs_in n k w.claims) (sym first) (subst (λ cs. 0 < pairs_in v.first k cs) (sym claims) h.1),
+        subst (λ n. 0 < pair_times n k w.claims) (sym first) (subst (λ cs. 0 < pair_times v.first k cs) (sym claims) h.1),
         omega (arith, h.2, ap (times_in k) e, times-append k rest (i ∷ []), same-ne i k ne, ended-else is_done v w i k ne ended),
       )
     where
@@ -225,7 +225,7 @@ module _ {T : Type 0} where
       }
 
   pub finishes-still : (v w : View T) → Finishes v w → FinishesClaims v → FinishesClaims w
-  finishes-still v w k h by i claimed = omega (arith, k.marks i, h by i (subst (λ cs. 0 < pairs_in by i cs) k.claims claimed))
+  finishes-still v w k h by i claimed = omega (arith, k.marks i, h by i (subst (λ cs. 0 < pair_times by i cs) k.claims claimed))
 
   pub goes-nowhere : (from : ℕ) (v : View T) → GoesOver from from v v
   goes-nowhere from v =
@@ -366,7 +366,7 @@ module _ {X T Q : Type 0} {g : Ghosts X T Q} where
   -- a seat that was cut, whose parts worked and were put together again
   pub worked-joined : (a low up low_then up_then both : Seat X T Q g) (cut : ℕ) → view low ≡ lower cut (view a) → seat_name low ≡ seat_name a
       → view up ≡ upper cut (view a) → Worked low low_then → Worked up up_then
-      → seat_name both ≡ seat_name low_then → view both ≡ joined (view low_then) (view up_then) → Worked a both
+      → seat_name both ≡ seat_name low_then → view both ≡ joined_views (view low_then) (view up_then) → Worked a both
   worked-joined a low up low_then up_then both cut l name u h k again e =
       record {
         table = again ∙ h.table ∙ name;
@@ -398,7 +398,7 @@ module _ {X T Q : Type 0} {g : Ghosts X T Q} where
 
   -- what two halves did is what both did
   pub both-went : (a low up low_then up_then both : Seat X T Q g) (cut : ℕ) → view low ≡ lower cut (view a) → view up ≡ upper cut (view a)
-      → view both ≡ joined (view low_then) (view up_then) → WentOver (view low) (view low_then) → WentOver (view up) (view up_then)
+      → view both ≡ joined_views (view low_then) (view up_then) → WentOver (view low) (view low_then) → WentOver (view up) (view up_then)
       → WentOver (view a) (view both)
   both-went a low up low_then up_then both cut l u e h k =
       record {

@@ -2,7 +2,7 @@
 
 ghost use Rattle.std.specs.Prelude.{◌≡◌, ◌<◌, length, IfOk, IfErr};
 ghost use Rattle.tile_table.specs.declared.view.Hand.{Hand};
-ghost use Rattle.tile_table.specs.Counts.{pairs_in};
+ghost use Rattle.tile_table.specs.Counts.{pair_times};
 ghost use Rattle.tile_table.specs.Seats.{view, seat_name, IsAt};
 ghost use Rattle.phase_run.specs.Inner.Workers.{TurnGot};
 ghost use Rattle.phase_run.specs.Tries.{TriedInVain};
@@ -25,7 +25,7 @@ pub(crate) fn taken_soon<P: Phase>(
     requires table { IsAt table.now seat.old }
     requires hand { (view seat.old).hand ≡ Hand.Empty }
     requires place { j < length (view seat.old).world }
-    requires claimed { 0 < pairs_in (view seat.old).first j (view seat.old).claims }
+    requires claimed { 0 < pair_times (view seat.old).first j (view seat.old).claims }
     ensures table { seat_name seat.new ≡ seat_name seat.old }
     ensures turn { IfOk result (λ turn. TurnGot (view seat.old) j turn (view seat.new)) }
     ensures missed { IfErr result (λ busy. Looked seat.old seat.new) }

@@ -4,7 +4,7 @@ ghost use Rattle.std.specs.Prelude.{◌≡◌, ℕ, ◌+◌, ◌<◌, ◌≤◌,
 ghost use Rattle.tile_machine.specs.At.{At};
 ghost use Rattle.tile_machine.specs.Late.{IfLate};
 ghost use Rattle.tile_table.specs.declared.view.Hand.{Hand};
-ghost use Rattle.tile_table.specs.Counts.{times_in, pairs_in};
+ghost use Rattle.tile_table.specs.Counts.{times_in, pair_times};
 ghost use Rattle.tile_table.specs.Seats.{view, IsAt};
 ghost use Rattle.phase_run.specs.declared.worker.Visit.{Visit};
 ghost use Rattle.tile_table.specs.Stays.{IsAlone, Loses, Looked, TookOne};
@@ -41,7 +41,7 @@ fn tile_of<P: Phase>(
     requires table { IsAt table.now seat.old }
     requires hand { (view seat.old).hand ≡ Hand.Empty }
     requires place { i < length (view seat.old).world }
-    requires claimed { 0 < pairs_in (view seat.old).first i (view seat.old).claims }
+    requires claimed { 0 < pair_times (view seat.old).first i (view seat.old).claims }
     requires unmarked { times_in i (view seat.old).marks ≡ 0 }
     ensures looked { Looked seat.old seat.new }
     ensures tile { IfOk result (λ tile. At (view seat.old).world i tile) }
@@ -75,7 +75,7 @@ fn rewritten<P: Phase>(
 ) -> Result<P::Tile, PartFault>
     requires ready { Ready table.now (P.fits phase.now) (P.finished phase.now) seat.old }
     requires place { i < length (view seat.old).world }
-    requires claimed { 0 < pairs_in (view seat.old).first i (view seat.old).claims }
+    requires claimed { 0 < pair_times (view seat.old).first i (view seat.old).claims }
     requires unmarked { times_in i (view seat.old).marks ≡ 0 }
     ensures looked { Looked seat.old seat.new }
     ensures tile { IfOk result (λ tile. At (view seat.old).goal i tile) }
@@ -94,7 +94,7 @@ fn is_put<P: Phase>(table: &TileTable<P>, seat: &mut Seat<P>, i: u64, tile: P::T
     requires table { IsAt table.now seat.old }
     requires hand { (view seat.old).hand ≡ Hand.Empty }
     requires place { i < length (view seat.old).world }
-    requires claimed { 0 < pairs_in (view seat.old).first i (view seat.old).claims }
+    requires claimed { 0 < pair_times (view seat.old).first i (view seat.old).claims }
     requires unmarked { times_in i (view seat.old).marks ≡ 0 }
     requires finished { At (view seat.old).goal i tile }
     ensures worked { Worked seat.old seat.new }
@@ -125,7 +125,7 @@ fn finish_claimed<P: Phase, G: Gate>(
 ) -> Result<bool, AllocError>
     requires ready { Ready table.now (P.fits phase.now) (P.finished phase.now) seat.old }
     requires place { i < length (view seat.old).world }
-    requires claimed { 0 < pairs_in (view seat.old).first i (view seat.old).claims }
+    requires claimed { 0 < pair_times (view seat.old).first i (view seat.old).claims }
     requires unmarked { times_in i (view seat.old).marks ≡ 0 }
     ensures worked { Worked seat.old seat.new }
     ensures loses { Loses (view seat.old) (view seat.new) }

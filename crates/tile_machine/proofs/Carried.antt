@@ -12,9 +12,9 @@ use Rattle.tile_machine.specs.declared.state.Cell.{Cell}
 use Rattle.tile_machine.specs.declared.state.Worker.{Worker}
 use Rattle.tile_machine.specs.At.{At}
 use Rattle.tile_machine.specs.State.{State, first_state, untouched, worker_of, cell_of, with_cell, with_worker, ranging}
-use Rattle.tile_machine.specs.Next.{Answer, next_state, names, if_next, after, leads}
+use Rattle.tile_machine.specs.Next.{Answer, next_state, names_worker, if_next, after, leads}
 use Rattle.tile_machine.specs.Values.{Values, opening, home_at, tile_by, value_of, is_marked, moved, carried, state_after, values_after, PlacedByMark, ReadAsWorld, AllDone, CarriesValues}
-use Rattle.tile_machine.proofs.Guards.{past_given, past_unless, past_provided}
+use Rattle.tile_machine.proofs.Guards.{past_if_there, past_unless, past_provided}
 use Rattle.tile_machine.proofs.Lists.{get-set_same, get-set_other}
 use Rattle.tile_machine.proofs.Bridges.{at-map}
 
@@ -139,54 +139,54 @@ module _ {T P : Type 0} (readable : T → P) (world finished : List T) (many : l
   follow_next : (s : State) (e : Event) (v : Values T) → Follow readable world finished s v
       → IfOk (next_state s e) (λ new. Follow readable world finished new (moved world finished s e v))
   follow_next s (Claim worker tile) v f =
-      past_given (λ new. Follow readable world finished new v) (worker_of s worker) _ _ (λ me alive.
-      past_given (λ new. Follow readable world finished new v) (cell_of s tile) _ _ (λ it at.
+      past_if_there (λ new. Follow readable world finished new v) (worker_of s worker) _ _ (λ me alive.
+      past_if_there (λ new. Follow readable world finished new v) (cell_of s tile) _ _ (λ it at.
       past_unless (λ new. Follow readable world finished new v) it.claim _ _ (λ free.
       follow_same s tile it (record it { claim = Some worker }) v f at refl)))
   follow_next s (Take worker tile) v f =
-      past_given (λ new. Follow readable world finished new v) (worker_of s worker) _ _ (λ me alive.
-      past_given (λ new. Follow readable world finished new v) (cell_of s tile) _ _ (λ it at.
+      past_if_there (λ new. Follow readable world finished new v) (worker_of s worker) _ _ (λ me alive.
+      past_if_there (λ new. Follow readable world finished new v) (cell_of s tile) _ _ (λ it at.
       past_unless (λ new. Follow readable world finished new v) me.hand _ _ (λ empty.
       past_unless (λ new. Follow readable world finished new v) it.lock _ _ (λ free.
       follow_worker (with_cell s tile (record it { lock = Some worker })) worker (record me { hand = Some tile }) v
       (follow_same s tile it (record it { lock = Some worker }) v f at refl)))))
   follow_next s (BringOut worker tile) v f =
-      past_given (λ new. Follow readable world finished new (moved world finished s (BringOut worker tile) v)) (worker_of s worker) _ _ (λ me alive.
-      past_given (λ new. Follow readable world finished new (moved world finished s (BringOut worker tile) v)) (cell_of s tile) _ _ (λ it at.
-      past_provided (λ new. Follow readable world finished new (moved world finished s (BringOut worker tile) v)) (names it.lock worker) _ _ (λ held.
+      past_if_there (λ new. Follow readable world finished new (moved world finished s (BringOut worker tile) v)) (worker_of s worker) _ _ (λ me alive.
+      past_if_there (λ new. Follow readable world finished new (moved world finished s (BringOut worker tile) v)) (cell_of s tile) _ _ (λ it at.
+      past_provided (λ new. Follow readable world finished new (moved world finished s (BringOut worker tile) v)) (names_worker it.lock worker) _ _ (λ held.
       past_provided (λ new. Follow readable world finished new (moved world finished s (BringOut worker tile) v)) it.home _ _ (λ home.
       follow_out s worker tile it v f at home))))
   follow_next s (Mark worker tile) v f =
-      past_given (λ new. Follow readable world finished new v) (worker_of s worker) _ _ (λ me alive.
-      past_given (λ new. Follow readable world finished new v) (cell_of s tile) _ _ (λ it at.
-      past_provided (λ new. Follow readable world finished new v) (names it.lock worker) _ _ (λ held.
+      past_if_there (λ new. Follow readable world finished new v) (worker_of s worker) _ _ (λ me alive.
+      past_if_there (λ new. Follow readable world finished new v) (cell_of s tile) _ _ (λ it at.
+      past_provided (λ new. Follow readable world finished new v) (names_worker it.lock worker) _ _ (λ held.
       past_provided (λ new. Follow readable world finished new v) (not it.home) _ _ (λ out.
-      past_provided (λ new. Follow readable world finished new v) (names it.claim worker) _ _ (λ mine.
+      past_provided (λ new. Follow readable world finished new v) (names_worker it.claim worker) _ _ (λ mine.
       past_provided (λ new. Follow readable world finished new v) (not it.marked) _ _ (λ unmarked.
       follow_same s tile it (record it { marked = true }) v f at
       (ap (λ h. cond h (tile_by world finished tile it.marked) None) (not-true it.home out)
       ∙ sym (ap (λ h. cond h (tile_by world finished tile true) None) (not-true it.home out)))))))))
   follow_next s (PutBack worker tile) v f =
-      past_given (λ new. Follow readable world finished new (moved world finished s (PutBack worker tile) v)) (worker_of s worker) _ _ (λ me alive.
-      past_given (λ new. Follow readable world finished new (moved world finished s (PutBack worker tile) v)) (cell_of s tile) _ _ (λ it at.
-      past_provided (λ new. Follow readable world finished new (moved world finished s (PutBack worker tile) v)) (names it.lock worker) _ _ (λ held.
+      past_if_there (λ new. Follow readable world finished new (moved world finished s (PutBack worker tile) v)) (worker_of s worker) _ _ (λ me alive.
+      past_if_there (λ new. Follow readable world finished new (moved world finished s (PutBack worker tile) v)) (cell_of s tile) _ _ (λ it at.
+      past_provided (λ new. Follow readable world finished new (moved world finished s (PutBack worker tile) v)) (names_worker it.lock worker) _ _ (λ held.
       past_provided (λ new. Follow readable world finished new (moved world finished s (PutBack worker tile) v)) (not it.home) _ _ (λ out.
       follow_back s worker tile it v f at))))
   follow_next s (Free worker tile) v f =
-      past_given (λ new. Follow readable world finished new v) (worker_of s worker) _ _ (λ me alive.
-      past_given (λ new. Follow readable world finished new v) (cell_of s tile) _ _ (λ it at.
-      past_provided (λ new. Follow readable world finished new v) (names it.lock worker) _ _ (λ held.
+      past_if_there (λ new. Follow readable world finished new v) (worker_of s worker) _ _ (λ me alive.
+      past_if_there (λ new. Follow readable world finished new v) (cell_of s tile) _ _ (λ it at.
+      past_provided (λ new. Follow readable world finished new v) (names_worker it.lock worker) _ _ (λ held.
       past_provided (λ new. Follow readable world finished new v) it.home _ _ (λ home.
       follow_worker (with_cell s tile (record it { lock = None })) worker (record me { hand = None }) v
       (follow_same s tile it (record it { lock = None }) v f at refl)))))
   follow_next s (Split worker at) v f =
-      past_given (λ new. Follow readable world finished new v) (worker_of s worker) _ _ (λ me alive.
+      past_if_there (λ new. Follow readable world finished new v) (worker_of s worker) _ _ (λ me alive.
       past_provided (λ new. Follow readable world finished new v) (ltb me.first at && ltb at me.end) _ _ (λ inside.
       follow_worker (with_worker s worker (record me { end = at })) at (ranging at me.end) v
       (follow_worker s worker (record me { end = at }) v f)))
   follow_next s (Join worker other) v f =
-      past_given (λ new. Follow readable world finished new v) (worker_of s worker) _ _ (λ me alive.
-      past_given (λ new. Follow readable world finished new v) (if_next me (worker_of s other)) _ _ (λ its found.
+      past_if_there (λ new. Follow readable world finished new v) (worker_of s worker) _ _ (λ me alive.
+      past_if_there (λ new. Follow readable world finished new v) (if_next me (worker_of s other)) _ _ (λ its found.
       past_unless (λ new. Follow readable world finished new v) its.hand _ _ (λ empty.
       follow_worker (with_worker s worker (record me { end = its.end })) other (ranging its.first its.first) v
       (follow_worker s worker (record me { end = its.end }) v f))))

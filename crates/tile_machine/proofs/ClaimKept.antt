@@ -8,9 +8,9 @@ use Rattle.tile_machine.specs.declared.state.Cell.{Cell}
 use Rattle.tile_machine.specs.declared.event.Event.{Event}
 use Rattle.tile_machine.specs.declared.event.Event.TheVariants.{Claim, Take, BringOut, Mark, PutBack, Free, Split, Join}
 use Rattle.tile_machine.specs.State.{State, cell_of, worker_of, with_cell}
-use Rattle.tile_machine.specs.Next.{next_state, names, if_next}
+use Rattle.tile_machine.specs.Next.{next_state, names_worker, if_next}
 use Rattle.tile_machine.specs.Good.{claimant_of}
-use Rattle.tile_machine.proofs.Guards.{past_given, past_unless, past_provided}
+use Rattle.tile_machine.proofs.Guards.{past_if_there, past_unless, past_provided}
 use Rattle.tile_machine.proofs.Lists.{get-set_same, get-set_other}
 
 -- the claim is there still
@@ -30,40 +30,40 @@ writes s tile by t it new claimed at kept =
 
 pub stays_next : (s : State) (e : Event) (tile by : ℕ) → Still tile by s → IfOk (next_state s e) (Still tile by)
 stays_next s (Claim worker t) tile by h =
-    past_given (Still tile by) (worker_of s worker) _ _ (λ me alive.
-    past_given (Still tile by) (cell_of s t) _ _ (λ it at.
+    past_if_there (Still tile by) (worker_of s worker) _ _ (λ me alive.
+    past_if_there (Still tile by) (cell_of s t) _ _ (λ it at.
     past_unless (Still tile by) it.claim _ _ (λ free. writes s tile by t it (record it { claim = Some worker }) h at (λ was. absurd (none-some by (sym free ∙ was))))))
 stays_next s (Take worker t) tile by h =
-    past_given (Still tile by) (worker_of s worker) _ _ (λ me alive.
-    past_given (Still tile by) (cell_of s t) _ _ (λ it at.
+    past_if_there (Still tile by) (worker_of s worker) _ _ (λ me alive.
+    past_if_there (Still tile by) (cell_of s t) _ _ (λ it at.
     past_unless (Still tile by) me.hand _ _ (λ empty.
     past_unless (Still tile by) it.lock _ _ (λ free. writes s tile by t it (record it { lock = Some worker }) h at (λ was. was)))))
 stays_next s (BringOut worker t) tile by h =
-    past_given (Still tile by) (worker_of s worker) _ _ (λ me alive.
-    past_given (Still tile by) (cell_of s t) _ _ (λ it at.
-    past_provided (Still tile by) (names it.lock worker) _ _ (λ held.
+    past_if_there (Still tile by) (worker_of s worker) _ _ (λ me alive.
+    past_if_there (Still tile by) (cell_of s t) _ _ (λ it at.
+    past_provided (Still tile by) (names_worker it.lock worker) _ _ (λ held.
     past_provided (Still tile by) it.home _ _ (λ home. writes s tile by t it (record it { home = false }) h at (λ was. was)))))
 stays_next s (Mark worker t) tile by h =
-    past_given (Still tile by) (worker_of s worker) _ _ (λ me alive.
-    past_given (Still tile by) (cell_of s t) _ _ (λ it at.
-    past_provided (Still tile by) (names it.lock worker) _ _ (λ held.
+    past_if_there (Still tile by) (worker_of s worker) _ _ (λ me alive.
+    past_if_there (Still tile by) (cell_of s t) _ _ (λ it at.
+    past_provided (Still tile by) (names_worker it.lock worker) _ _ (λ held.
     past_provided (Still tile by) (not it.home) _ _ (λ out.
-    past_provided (Still tile by) (names it.claim worker) _ _ (λ mine.
+    past_provided (Still tile by) (names_worker it.claim worker) _ _ (λ mine.
     past_provided (Still tile by) (not it.marked) _ _ (λ clear. writes s tile by t it (record it { marked = true }) h at (λ was. was)))))))
 stays_next s (PutBack worker t) tile by h =
-    past_given (Still tile by) (worker_of s worker) _ _ (λ me alive.
-    past_given (Still tile by) (cell_of s t) _ _ (λ it at.
-    past_provided (Still tile by) (names it.lock worker) _ _ (λ held.
+    past_if_there (Still tile by) (worker_of s worker) _ _ (λ me alive.
+    past_if_there (Still tile by) (cell_of s t) _ _ (λ it at.
+    past_provided (Still tile by) (names_worker it.lock worker) _ _ (λ held.
     past_provided (Still tile by) (not it.home) _ _ (λ out. writes s tile by t it (record it { home = true }) h at (λ was. was)))))
 stays_next s (Free worker t) tile by h =
-    past_given (Still tile by) (worker_of s worker) _ _ (λ me alive.
-    past_given (Still tile by) (cell_of s t) _ _ (λ it at.
-    past_provided (Still tile by) (names it.lock worker) _ _ (λ held.
+    past_if_there (Still tile by) (worker_of s worker) _ _ (λ me alive.
+    past_if_there (Still tile by) (cell_of s t) _ _ (λ it at.
+    past_provided (Still tile by) (names_worker it.lock worker) _ _ (λ held.
     past_provided (Still tile by) it.home _ _ (λ home. writes s tile by t it (record it { lock = None }) h at (λ was. was)))))
 stays_next s (Split worker x) tile by h =
-    past_given (Still tile by) (worker_of s worker) _ _ (λ me alive.
+    past_if_there (Still tile by) (worker_of s worker) _ _ (λ me alive.
     past_provided (Still tile by) (nat_lt me.first x && nat_lt x me.end) _ _ (λ inside. h))
 stays_next s (Join worker other) tile by h =
-    past_given (Still tile by) (worker_of s worker) _ _ (λ me alive.
-    past_given (Still tile by) (if_next me (worker_of s other)) _ _ (λ its next.
+    past_if_there (Still tile by) (worker_of s worker) _ _ (λ me alive.
+    past_if_there (Still tile by) (if_next me (worker_of s other)) _ _ (λ its next.
     past_unless (Still tile by) its.hand _ _ (λ empty. h)))

@@ -8,14 +8,14 @@ use Rattle.tile_machine.specs.declared.event.Event.{Event}
 use Rattle.tile_machine.specs.declared.refused.Refused.{Refused}
 use Rattle.tile_machine.specs.declared.event.Event.TheVariants.{Claim, Take, BringOut, Mark, PutBack, Free, Split, Join}
 use Rattle.tile_machine.specs.State.{State, cell_of, worker_of}
-use Rattle.tile_machine.specs.Next.{Answer, next_state, names, if_next, after}
+use Rattle.tile_machine.specs.Next.{Answer, next_state, names_worker, if_next, after}
 use Rattle.tile_machine.specs.Inner.{Follows}
 use Rattle.tile_machine.specs.Good.{IsGood}
-use Rattle.tile_machine.proofs.Guards.{past_given, past_unless, past_provided}
+use Rattle.tile_machine.proofs.Guards.{past_if_there, past_unless, past_provided}
 use Rattle.tile_machine.proofs.Kept.{range_inside, good_cell, good_take, good_free, good_split, good_join}
 
 -- whom a claim or a lock names
-pub named : (o : Option ℕ) (n : ℕ) → names o n ≡ true → o ≡ Some n
+pub named : (o : Option ℕ) (n : ℕ) → names_worker o n ≡ true → o ≡ Some n
 named None n h = absurd (cc h)
 named (Some m) n h = ap Some (eqb-true m n h)
 
@@ -27,7 +27,7 @@ next_one me (Some v) its h =
     (ap Some parts.1, subst (λ u. u.first ≡ me.end) parts.1 (eqb-true v.first me.end parts.0))
 
 -- a named one is somebody
-somebody : (o : Option ℕ) (n : ℕ) → names o n ≡ true → IsSome o
+somebody : (o : Option ℕ) (n : ℕ) → names_worker o n ≡ true → IsSome o
 somebody None n h = absurd (cc h)
 somebody (Some m) n h = refl
 
@@ -43,50 +43,50 @@ claimed w s tile it good at =
 
 pub good_next : (w : ℕ) (s : State) (e : Event) → IsGood w s → IfOk (next_state s e) (IsGood w)
 good_next w s (Claim worker tile) good =
-    past_given (IsGood w) (worker_of s worker) _ _ (λ me alive.
-    past_given (IsGood w) (cell_of s tile) _ _ (λ it at.
+    past_if_there (IsGood w) (worker_of s worker) _ _ (λ me alive.
+    past_if_there (IsGood w) (cell_of s tile) _ _ (λ it at.
     past_unless (IsGood w) it.claim _ _ (λ free.
     good_cell w s tile it (record it { claim = Some worker }) good at refl (held_out w s tile it good at) (λ _. refl))))
 good_next w s (Take worker tile) good =
-    past_given (IsGood w) (worker_of s worker) _ _ (λ me alive.
-    past_given (IsGood w) (cell_of s tile) _ _ (λ it at.
+    past_if_there (IsGood w) (worker_of s worker) _ _ (λ me alive.
+    past_if_there (IsGood w) (cell_of s tile) _ _ (λ it at.
     past_unless (IsGood w) me.hand _ _ (λ empty.
     past_unless (IsGood w) it.lock _ _ (λ free.
     good_take w s worker tile me it good alive at empty free))))
 good_next w s (BringOut worker tile) good =
-    past_given (IsGood w) (worker_of s worker) _ _ (λ me alive.
-    past_given (IsGood w) (cell_of s tile) _ _ (λ it at.
-    past_provided (IsGood w) (names it.lock worker) _ _ (λ held.
+    past_if_there (IsGood w) (worker_of s worker) _ _ (λ me alive.
+    past_if_there (IsGood w) (cell_of s tile) _ _ (λ it at.
+    past_provided (IsGood w) (names_worker it.lock worker) _ _ (λ held.
     past_provided (IsGood w) it.home _ _ (λ home.
     good_cell w s tile it (record it { home = false }) good at refl (λ _. somebody it.lock worker held) (claimed w s tile it good at)))))
 good_next w s (Mark worker tile) good =
-    past_given (IsGood w) (worker_of s worker) _ _ (λ me alive.
-    past_given (IsGood w) (cell_of s tile) _ _ (λ it at.
-    past_provided (IsGood w) (names it.lock worker) _ _ (λ held.
+    past_if_there (IsGood w) (worker_of s worker) _ _ (λ me alive.
+    past_if_there (IsGood w) (cell_of s tile) _ _ (λ it at.
+    past_provided (IsGood w) (names_worker it.lock worker) _ _ (λ held.
     past_provided (IsGood w) (not it.home) _ _ (λ out.
-    past_provided (IsGood w) (names it.claim worker) _ _ (λ mine.
+    past_provided (IsGood w) (names_worker it.claim worker) _ _ (λ mine.
     past_provided (IsGood w) (not it.marked) _ _ (λ unmarked.
     good_cell w s tile it (record it { marked = true }) good at refl (held_out w s tile it good at) (λ _. somebody it.claim worker mine)))))))
 good_next w s (PutBack worker tile) good =
-    past_given (IsGood w) (worker_of s worker) _ _ (λ me alive.
-    past_given (IsGood w) (cell_of s tile) _ _ (λ it at.
-    past_provided (IsGood w) (names it.lock worker) _ _ (λ held.
+    past_if_there (IsGood w) (worker_of s worker) _ _ (λ me alive.
+    past_if_there (IsGood w) (cell_of s tile) _ _ (λ it at.
+    past_provided (IsGood w) (names_worker it.lock worker) _ _ (λ held.
     past_provided (IsGood w) (not it.home) _ _ (λ out.
     good_cell w s tile it (record it { home = true }) good at refl (λ away. absurd (true≢false away)) (claimed w s tile it good at)))))
 good_next w s (Free worker tile) good =
-    past_given (IsGood w) (worker_of s worker) _ _ (λ me alive.
-    past_given (IsGood w) (cell_of s tile) _ _ (λ it at.
-    past_provided (IsGood w) (names it.lock worker) _ _ (λ held.
+    past_if_there (IsGood w) (worker_of s worker) _ _ (λ me alive.
+    past_if_there (IsGood w) (cell_of s tile) _ _ (λ it at.
+    past_provided (IsGood w) (names_worker it.lock worker) _ _ (λ held.
     past_provided (IsGood w) it.home _ _ (λ home.
     good_free w s worker tile me it good alive at (named it.lock worker held) home))))
 good_next w s (Split worker at) good =
-    past_given (IsGood w) (worker_of s worker) _ _ (λ me alive.
+    past_if_there (IsGood w) (worker_of s worker) _ _ (λ me alive.
     past_provided (IsGood w) (ltb me.first at && ltb at me.end) _ _ (λ inside.
     let parts = and_parts (ltb me.first at) (ltb at me.end) inside in
     good_split w s worker at me good alive (ltb-true me.first at parts.0) (ltb-true at me.end parts.1)))
 good_next w s (Join worker other) good =
-    past_given (IsGood w) (worker_of s worker) _ _ (λ me alive.
-    past_given (IsGood w) (if_next me (worker_of s other)) _ _ (λ its found.
+    past_if_there (IsGood w) (worker_of s worker) _ _ (λ me alive.
+    past_if_there (IsGood w) (if_next me (worker_of s other)) _ _ (λ its found.
     past_unless (IsGood w) its.hand _ _ (λ empty.
     let parts = next_one me (worker_of s other) its found in
     good_join w s worker other me its good alive parts.0 parts.1 empty)))

@@ -3,12 +3,12 @@ use Rattle.std.proofs.Common.{◌≡◌, ℕ, Bool, true, false, Option, Some, N
 use Rattle.std.specs.Prelude.{IfOk}
 use Rattle.tile_machine.specs.declared.refused.Refused.{Refused}
 use Rattle.tile_machine.specs.State.{State}
-use Rattle.tile_machine.specs.Next.{Answer, given, unless, provided}
+use Rattle.tile_machine.specs.Next.{Answer, if_there, unless, provided}
 
-pub past_given : {A : Type 0} (P : State → Type 0) (o : Option A) (refusal : Refused) (rest : A → Answer)
-    → ((x : A) → o ≡ Some x → IfOk (rest x) P) → IfOk (given o refusal rest) P
-past_given P None refusal rest h = tt
-past_given P (Some x) refusal rest h = h x refl
+pub past_if_there : {A : Type 0} (P : State → Type 0) (o : Option A) (refusal : Refused) (rest : A → Answer)
+    → ((x : A) → o ≡ Some x → IfOk (rest x) P) → IfOk (if_there o refusal rest) P
+past_if_there P None refusal rest h = tt
+past_if_there P (Some x) refusal rest h = h x refl
 
 pub past_unless : (P : State → Type 0) (o : Option ℕ) (refusal : ℕ → Refused) (rest : Answer)
     → (o ≡ None → IfOk rest P) → IfOk (unless o refusal rest) P

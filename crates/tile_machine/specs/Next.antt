@@ -1,5 +1,5 @@
 -- The table of events: what each does to a state, or the first cause for which it is refused.
-use Rattle.std.specs.Prelude.{◌≡◌, ℕ, ◌+◌, Option, Some, None, Bool, true, false, not, ◌&&◌, Result, Ok, Err, is_ok, List, [], ◌∷◌, ◌==◌, nat_lt, if◌then◌else◌}
+use Rattle.std.specs.Prelude.{ℕ, ◌+◌, Option, Some, None, Bool, true, false, not, ◌&&◌, Result, Ok, Err, is_ok, List, [], ◌∷◌, ◌==◌, nat_lt, if◌then◌else◌}
 use Rattle.tile_machine.specs.declared.event.Event.{Event}
 use Rattle.tile_machine.specs.declared.event.Event.TheVariants.{Claim, Take, BringOut, Mark, PutBack, Free, Split, Join}
 use Rattle.tile_machine.specs.declared.refused.Refused.{Refused}
@@ -12,9 +12,9 @@ abbrev pub Answer : Type 0
 Answer = Result State Refused
 
 -- goes on with what there is. Where there is none, the event is refused
-abbrev pub given : {A : Type 0} → Option A → Refused → (A → Answer) → Answer
-given None refusal rest = Err refusal
-given (Some x) refusal rest = rest x
+abbrev pub if_there : {A : Type 0} → Option A → Refused → (A → Answer) → Answer
+if_there None refusal rest = Err refusal
+if_there (Some x) refusal rest = rest x
 
 -- goes on where nobody is named. Else the event is refused, with the one that is named
 abbrev pub unless : Option ℕ → (ℕ → Refused) → Answer → Answer
@@ -27,9 +27,9 @@ provided true refusal rest = rest
 provided false refusal rest = Err refusal
 
 -- the claim or the lock names this worker
-abbrev pub names : Option ℕ → ℕ → Bool
-names None n = false
-names (Some m) n = m == n
+abbrev pub names_worker : Option ℕ → ℕ → Bool
+names_worker None n = false
+names_worker (Some m) n = m == n
 
 -- the live worker whose range begins where this one ends, if it has this number
 abbrev pub if_next : Worker → Option Worker → Option Worker
@@ -40,56 +40,56 @@ if_next me (Some its) = if its.first == me.end then Some its else None
 abbrev pub next_state : State → Event → Answer
 -- the claim names the worker
 next_state s (Claim worker tile) =
-    given (worker_of s worker) NoWorker (λ me.
-    given (cell_of s tile) NoTile (λ it.
+    if_there (worker_of s worker) NoWorker (λ me.
+    if_there (cell_of s tile) NoTile (λ it.
     unless it.claim Claimed (
     Ok (with_cell s tile (record it { claim = Some worker })))))
 -- the lock names the worker, and the worker holds it
 next_state s (Take worker tile) =
-    given (worker_of s worker) NoWorker (λ me.
-    given (cell_of s tile) NoTile (λ it.
+    if_there (worker_of s worker) NoWorker (λ me.
+    if_there (cell_of s tile) NoTile (λ it.
     unless me.hand HandsFull (
     unless it.lock Held (
     Ok (with_worker (with_cell s tile (record it { lock = Some worker })) worker (record me { hand = Some tile }))))))
 -- the value is out
 next_state s (BringOut worker tile) =
-    given (worker_of s worker) NoWorker (λ me.
-    given (cell_of s tile) NoTile (λ it.
-    provided (names it.lock worker) NotHolder (
+    if_there (worker_of s worker) NoWorker (λ me.
+    if_there (cell_of s tile) NoTile (λ it.
+    provided (names_worker it.lock worker) NotHolder (
     provided it.home IsOut (
     Ok (with_cell s tile (record it { home = false }))))))
 -- the tile is marked
 next_state s (Mark worker tile) =
-    given (worker_of s worker) NoWorker (λ me.
-    given (cell_of s tile) NoTile (λ it.
-    provided (names it.lock worker) NotHolder (
+    if_there (worker_of s worker) NoWorker (λ me.
+    if_there (cell_of s tile) NoTile (λ it.
+    provided (names_worker it.lock worker) NotHolder (
     provided (not it.home) IsHome (
-    provided (names it.claim worker) NotClaimant (
+    provided (names_worker it.claim worker) NotClaimant (
     provided (not it.marked) Marked (
     Ok (with_cell s tile (record it { marked = true }))))))))
 -- the value is at home
 next_state s (PutBack worker tile) =
-    given (worker_of s worker) NoWorker (λ me.
-    given (cell_of s tile) NoTile (λ it.
-    provided (names it.lock worker) NotHolder (
+    if_there (worker_of s worker) NoWorker (λ me.
+    if_there (cell_of s tile) NoTile (λ it.
+    provided (names_worker it.lock worker) NotHolder (
     provided (not it.home) IsHome (
     Ok (with_cell s tile (record it { home = true }))))))
 -- the lock is free, and the worker holds none
 next_state s (Free worker tile) =
-    given (worker_of s worker) NoWorker (λ me.
-    given (cell_of s tile) NoTile (λ it.
-    provided (names it.lock worker) NotHolder (
+    if_there (worker_of s worker) NoWorker (λ me.
+    if_there (cell_of s tile) NoTile (λ it.
+    provided (names_worker it.lock worker) NotHolder (
     provided it.home IsOut (
     Ok (with_worker (with_cell s tile (record it { lock = None })) worker (record me { hand = None }))))))
 -- the worker keeps the lower part of its range. The upper part is a new worker
 next_state s (Split worker at) =
-    given (worker_of s worker) NoWorker (λ me.
+    if_there (worker_of s worker) NoWorker (λ me.
     provided (nat_lt me.first at && nat_lt at me.end) BadRange (
     Ok (with_worker (with_worker s worker (record me { end = at })) at (ranging at me.end))))
 -- the worker's range grows by the other's, and the other ends
 next_state s (Join worker other) =
-    given (worker_of s worker) NoWorker (λ me.
-    given (if_next me (worker_of s other)) BadRange (λ its.
+    if_there (worker_of s worker) NoWorker (λ me.
+    if_there (if_next me (worker_of s other)) BadRange (λ its.
     unless its.hand StillHolds (
     Ok (with_worker (with_worker s worker (record me { end = its.end })) other (ranging its.first its.first)))))
 

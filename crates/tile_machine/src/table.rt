@@ -2,7 +2,7 @@
 
 ghost use Rattle.std.specs.Prelude.{◌≡◌, ◌&&◌, length, slice_get, nat_lt};
 ghost use Rattle.tile_machine.specs.Good.{IsGood};
-ghost use Rattle.tile_machine.specs.Next.{names, if_next};
+ghost use Rattle.tile_machine.specs.Next.{names_worker, if_next};
 ghost use Rattle.tile_machine.specs.Inner.{Follows};
 ghost use Rattle.tile_machine.specs.State.{if_live};
 ghost use Rattle.tile_machine.specs.Inner.{state_of};
@@ -35,7 +35,7 @@ fn found(cells: &[Cell], tile: u64) -> Option<Cell>
 }
 
 fn is_named(who: Option<u64>, worker: u64) -> bool
-    ensures { result ≡ names who worker }
+    ensures { result ≡ names_worker who worker }
 {
     match who {
         Some(named) => named == worker,

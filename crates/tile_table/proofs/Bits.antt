@@ -3,23 +3,23 @@ use Rattle.std.proofs.Common.{◌≡◌, ℕ, ◌+◌, ◌<◌, ◌≤◌, ◌�
 use mathlib.Core.Logic.{dite}
 use native.Mathlib.Decide.{ℕ_discrete}
 use Rattle.std.proofs.lemmas.Bool.Decides.{nat_tests}
-use Rattle.tile_table.specs.Counts.{bit, same}
+use Rattle.tile_table.specs.Counts.{bit, same_bit}
 
 pub bit-le : (b : Bool) → bit b ≤ 1
 bit-le true = omega arith
 bit-le false = omega arith
 
-pub same-eq : (a b : ℕ) → a ≡ b → same a b ≡ 1
+pub same-eq : (a b : ℕ) → a ≡ b → same_bit a b ≡ 1
 same-eq a b e = ap bit (eq-eqb a b e)
 
-pub same-ne : (a b : ℕ) → a ≢ b → same a b ≡ 0
+pub same-ne : (a b : ℕ) → a ≢ b → same_bit a b ≡ 0
 same-ne a b ne = ap bit (ne_eqb a b ne)
 
-pub same-some : (a b : ℕ) → 0 < same a b → a ≡ b
+pub same-some : (a b : ℕ) → 0 < same_bit a b → a ≡ b
 same-some a b some = dite (ℕ_discrete a b) (λ e. e) (λ ne. absurd (omega (arith, same-ne a b ne, some)))
 
 -- both numbers are shifted
-pub same-shift : (a b n : ℕ) → same (a + n) (b + n) ≡ same a b
+pub same-shift : (a b n : ℕ) → same_bit (a + n) (b + n) ≡ same_bit a b
 same-shift a b n =
     dite (ℕ_discrete a b)
     (λ e. same-eq (a + n) (b + n) (omega arith) ∙ sym (same-eq a b e))
@@ -34,7 +34,7 @@ and-false true = refl
 and-false false = refl
 
 -- a pair that agrees in its second number
-pub both-same : (a b w i : ℕ) → b ≡ i → bit (eqb a w && eqb b i) ≡ same a w
+pub both-same : (a b w i : ℕ) → b ≡ i → bit (eqb a w && eqb b i) ≡ same_bit a w
 both-same a b w i e = ap (λ t. bit (eqb a w && t)) (eq-eqb b i e) ∙ and-true (eqb a w)
 
 -- a pair that doesn't

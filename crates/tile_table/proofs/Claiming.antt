@@ -5,7 +5,7 @@ use Rattle.std.proofs.lemmas.List.{length-set}
 use mathlib.Core.Logic.{dite}
 use native.Mathlib.Decide.{ℕ_discrete}
 use Rattle.tile_table.specs.declared.view.View.{View}
-use Rattle.tile_table.specs.Counts.{same, pairs_in, total}
+use Rattle.tile_table.specs.Counts.{same_bit, pair_times, total}
 use Rattle.tile_table.specs.Views.{claiming, marking, with_claim}
 use Rattle.tile_table.specs.Shows.{Table, Shows, Knows, claim_of, lock_of, mark_of}
 use Rattle.tile_table.proofs.Bits.{same-ne, same-shift, both-same, both-other}
@@ -40,19 +40,19 @@ module _ {T : Type 0} where
       let locks : (i : ℕ) → slice_index ws (3 * i + 1) ≡ lock_of s i = λ i. else (3 * i + 1) (λ e. omega arith) in
       let marks : (i : ℕ) → slice_index ws (3 * i + 2) ≡ mark_of s i = λ i. else (3 * i + 2) (λ e. omega arith) in
       let claims : (i : ℕ) → i ≢ j → slice_index ws (3 * i) ≡ claim_of s i = λ i ne. else (3 * i) (λ e. ne (omega arith)) in
-      let more : (n i : ℕ) → claiming n i w ≡ claiming n i v + pairs_in n i ((v.first, j) ∷ []) = λ n i. pairs-append n i v.claims ((v.first, j) ∷ []) in
+      let more : (n i : ℕ) → claiming n i w ≡ claiming n i v + pair_times n i ((v.first, j) ∷ []) = λ n i. pairs-append n i v.claims ((v.first, j) ∷ []) in
       let keep : Keeps s sh.world sh.goal k v w ws s.homes =
       record {
         words = length-set s.words word (v.first + 1);
         slots = refl;
-        holders = λ n i. omega (arith, sh.locks.holders n i, ap (λ x. same x (n + 2)) (locks i));
+        holders = λ n i. omega (arith, sh.locks.holders n i, ap (λ x. same_bit x (n + 2)) (locks i));
         taken = λ i n e. sh.locks.taken k v i n at e;
         more_takes = λ n i. omega arith;
         claims =
             λ n i. dite (ℕ_discrete i j)
-            (λ e. subst (λ x. total (claiming n x) s.views + claiming n x w ≡ same (slice_index ws (3 * x)) (n + 1) + claiming n x v) (sym e)
-            (omega (arith, more n j, both-same v.first j n j refl, sh.claims n j, same-ne (claim_of s j) (n + 1) (λ q. omega (arith, free)), ap (λ x. same x (n + 1)) here, same-shift v.first n 1)))
-            (λ ne. omega (arith, more n i, both-other v.first j n i (λ e. ne (sym e)), sh.claims n i, ap (λ x. same x (n + 1)) (claims i ne)));
+            (λ e. subst (λ x. total (claiming n x) s.views + claiming n x w ≡ same_bit (slice_index ws (3 * x)) (n + 1) + claiming n x v) (sym e)
+            (omega (arith, more n j, both-same v.first j n j refl, sh.claims n j, same-ne (claim_of s j) (n + 1) (λ q. omega (arith, free)), ap (λ x. same_bit x (n + 1)) here, same-shift v.first n 1)))
+            (λ ne. omega (arith, more n i, both-other v.first j n i (λ e. ne (sym e)), sh.claims n i, ap (λ x. same_bit x (n + 1)) (claims i ne)));
         claims_stay =
             λ n i e. dite (ℕ_discrete i j)
             (λ q. absurd (omega (arith, subst (λ x. claim_of s x ≡ n + 1) q e, free)))

@@ -7,8 +7,8 @@ use Rattle.atomic_table.specs.Table.{Splits, Joins}
 use Rattle.atomic_table.proofs.Lists.{at_snoc, set_else}
 use Rattle.tile_table.specs.declared.view.View.{View}
 use Rattle.tile_table.specs.declared.view.Hand.TheVariants.{Empty, Holds}
-use Rattle.tile_table.specs.Counts.{bit, times_in, pairs_in, total}
-use Rattle.tile_table.specs.Views.{held, nobody, lower, upper, joined, covering, claiming, taking, marking, holding}
+use Rattle.tile_table.specs.Counts.{bit, times_in, pair_times, total}
+use Rattle.tile_table.specs.Views.{held, nobody, lower, upper, joined_views, covering, claiming, taking, marking, holding}
 use Rattle.tile_table.specs.Shows.{Shows, claim_of, mark_of}
 use Rattle.tile_table.proofs.Bits.{cut, no-range}
 use Rattle.tile_table.proofs.Sums.{total-append, total-set, each-set, times-append, pairs-append}
@@ -74,18 +74,18 @@ module _ {T : Type 0} where
         reads =
             record {
               known = λ j u i bt. each (λ u. (i : ℕ) → 0 < times_in i u.known → mark_of s i ≡ 1) (λ i h. sh.reads.known id v i at h) (λ i h. absurd (omega (arith, h))) (λ j u bt i h. sh.reads.known j u i bt h) j u bt i;
-              seen = λ j u i by bt. each (λ u. (i by : ℕ) → 0 < pairs_in i by u.seen → claim_of s i ≡ by + 1) (λ i by h. sh.reads.seen id v i by at h) (λ i by h. absurd (omega (arith, h))) (λ j u bt i by h. sh.reads.seen j u i by bt h) j u bt i by;
+              seen = λ j u i by bt. each (λ u. (i by : ℕ) → 0 < pair_times i by u.seen → claim_of s i ≡ by + 1) (λ i by h. sh.reads.seen id v i by at h) (λ i by h. absurd (omega (arith, h))) (λ j u bt i by h. sh.reads.seen j u i by bt h) j u bt i by;
               lost =
-                  λ j u i h bt. each (λ u. (i h : ℕ) → 0 < pairs_in i h u.lost → 0 < total (taking h i) views)
+                  λ j u i h bt. each (λ u. (i h : ℕ) → 0 < pair_times i h u.lost → 0 < total (taking h i) views)
                   (λ i h p. omega (arith, takes h i, sh.reads.lost id v i h at p))
                   (λ i h p. absurd (omega (arith, p)))
                   (λ j u bt i h p. omega (arith, takes h i, sh.reads.lost j u i h bt p)) j u bt i h;
             };
       }
 
-  pub joins : (id other : ℕ) (v w : View T) → v.first < v.end → w.first < w.end → w.first ≡ v.end → w.hand ≡ Empty → Joins Shows id v other w (joined v w) nobody
+  pub joins : (id other : ℕ) (v w : View T) → v.first < v.end → w.first < w.end → w.first ≡ v.end → w.hand ≡ Empty → Joins Shows id v other w (joined_views v w) nobody
   joins id other v w live alive next empty s sh at apart bt =
-      let both : View T = joined v w in
+      let both : View T = joined_views v w in
       let views : List (View T) = slice_set (slice_set s.views id both) other nobody in
       let o = sh.one_world in
       let wt : get_elem? s.views other ≡ some w = sym (set_else s.views id other both apart) ∙ bt in
@@ -138,15 +138,15 @@ module _ {T : Type 0} where
                   (λ i h. ⊎_elim (λ p. sh.reads.known id v i at p) (λ p. sh.reads.known other w i wt p) (part_of (times_in i v.known) (times_in i w.known) (omega (arith, times-append i v.known w.known, h))))
                   (λ i h. absurd (omega (arith, h))) (λ j u bt i h. sh.reads.known j u i bt h) j u bt i;
               seen =
-                  λ j u i by bt. each (λ u. (i by : ℕ) → 0 < pairs_in i by u.seen → claim_of s i ≡ by + 1)
-                  (λ i by h. ⊎_elim (λ p. sh.reads.seen id v i by at p) (λ p. sh.reads.seen other w i by wt p) (part_of (pairs_in i by v.seen) (pairs_in i by w.seen) (omega (arith, pairs-append i by v.seen w.seen, h))))
+                  λ j u i by bt. each (λ u. (i by : ℕ) → 0 < pair_times i by u.seen → claim_of s i ≡ by + 1)
+                  (λ i by h. ⊎_elim (λ p. sh.reads.seen id v i by at p) (λ p. sh.reads.seen other w i by wt p) (part_of (pair_times i by v.seen) (pair_times i by w.seen) (omega (arith, pairs-append i by v.seen w.seen, h))))
                   (λ i by h. absurd (omega (arith, h))) (λ j u bt i by h. sh.reads.seen j u i by bt h) j u bt i by;
               lost =
-                  λ j u i h bt. each (λ u. (i h : ℕ) → 0 < pairs_in i h u.lost → 0 < total (taking h i) views)
+                  λ j u i h bt. each (λ u. (i h : ℕ) → 0 < pair_times i h u.lost → 0 < total (taking h i) views)
                   (λ i h p. ⊎_elim
                   (λ q. omega (arith, takes h i, sh.reads.lost id v i h at q))
                   (λ q. omega (arith, takes h i, sh.reads.lost other w i h wt q))
-                  (part_of (pairs_in i h v.lost) (pairs_in i h w.lost) (omega (arith, pairs-append i h v.lost w.lost, p))))
+                  (part_of (pair_times i h v.lost) (pair_times i h w.lost) (omega (arith, pairs-append i h v.lost w.lost, p))))
                   (λ i h p. absurd (omega (arith, p)))
                   (λ j u bt i h p. omega (arith, takes h i, sh.reads.lost j u i h bt p)) j u bt i h;
             };

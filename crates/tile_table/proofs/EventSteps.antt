@@ -12,7 +12,7 @@ use Rattle.atomic_table.proofs.Lists.{at_set, set_else}
 use Rattle.tile_machine.specs.declared.refused.Refused.{Refused}
 use Rattle.std.specs.List.{range_with_len}
 use Rattle.tile_machine.specs.State.{State, worker_of, cell_of, with_cell, with_worker, ranging, untouched, first_state}
-use Rattle.tile_machine.specs.Next.{next_state, if_next, given, unless, provided, names}
+use Rattle.tile_machine.specs.Next.{next_state, if_next, if_there, unless, provided, names_worker}
 use Rattle.tile_machine.specs.declared.state.Cell.{Cell}
 use Rattle.tile_machine.specs.declared.state.Worker.{Worker}
 use Rattle.tile_machine.specs.declared.event.Event.TheVariants.{Claim, Take, BringOut, Mark, PutBack, Free, Split, Join}
@@ -20,7 +20,7 @@ use Rattle.tile_machine.specs.declared.refused.Refused.TheVariants.{NoWorker, No
 use Rattle.tile_table.specs.declared.view.View.{View}
 use Rattle.tile_table.specs.declared.view.Hand.TheVariants.{Empty, Holds}
 use Rattle.tile_table.specs.Counts.{bit}
-use Rattle.tile_table.specs.Views.{opening_view, claiming, marking, with_claim, with_seen, with_lost, with_known, with_take, with_mark, with_no_hand, lower, upper, joined, nobody}
+use Rattle.tile_table.specs.Views.{opening_view, claiming, marking, with_claim, with_seen, with_lost, with_known, with_take, with_mark, with_no_hand, lower, upper, joined_views, nobody}
 use Rattle.tile_table.specs.Shows.{Table, Shows, Knows, claim_of, lock_of, mark_of}
 use Rattle.tile_table.specs.Events.{named, with_views, is_worker, listed, place_held, cell_at, worker_of_view, worker_at, shown, StepsAreEvents, BeginsAsMachine}
 use Rattle.tile_table.proofs.Bits.{bit-le, within}
@@ -34,14 +34,14 @@ use Rattle.tile_table.proofs.Listed.{choose, named-by, worker-found, same-listed
 claim-next : (a : State) (n i : ℕ) (me : Worker) (it : Cell) → worker_of a n ≡ Some me → cell_of a i ≡ Some it → it.claim ≡ None
     → next_state a (Claim n i) ≡ Ok (with_cell a i (record it { claim = Some n }))
 claim-next a n i me it w c f =
-    ap (λ o. given o NoWorker (λ me. given (cell_of a i) NoTile (λ it. unless it.claim Claimed (Ok (with_cell a i (record it { claim = Some n })))))) w
-    ∙ ap (λ o. given o NoTile (λ it. unless it.claim Claimed (Ok (with_cell a i (record it { claim = Some n }))))) c
+    ap (λ o. if_there o NoWorker (λ me. if_there (cell_of a i) NoTile (λ it. unless it.claim Claimed (Ok (with_cell a i (record it { claim = Some n })))))) w
+    ∙ ap (λ o. if_there o NoTile (λ it. unless it.claim Claimed (Ok (with_cell a i (record it { claim = Some n }))))) c
     ∙ ap (λ o. unless o Claimed (Ok (with_cell a i (record it { claim = Some n })))) f
 
 claim-refused : (a : State) (n i by : ℕ) (me : Worker) (it : Cell) → worker_of a n ≡ Some me → cell_of a i ≡ Some it → it.claim ≡ Some by → next_state a (Claim n i) ≡ Err (Claimed by)
 claim-refused a n i by me it w c f =
-    ap (λ o. given o NoWorker (λ me. given (cell_of a i) NoTile (λ it. unless it.claim Claimed (Ok (with_cell a i (record it { claim = Some n })))))) w
-    ∙ ap (λ o. given o NoTile (λ it. unless it.claim Claimed (Ok (with_cell a i (record it { claim = Some n }))))) c
+    ap (λ o. if_there o NoWorker (λ me. if_there (cell_of a i) NoTile (λ it. unless it.claim Claimed (Ok (with_cell a i (record it { claim = Some n })))))) w
+    ∙ ap (λ o. if_there o NoTile (λ it. unless it.claim Claimed (Ok (with_cell a i (record it { claim = Some n }))))) c
     ∙ ap (λ o. unless o Claimed (Ok (with_cell a i (record it { claim = Some n })))) f
 
 named-none : (n x : ℕ) → x < n → named n x ≡ None
@@ -76,30 +76,30 @@ take-next : (a : State) (n j : ℕ) (me : Worker) (it : Cell) → worker_of a n 
     → next_state a (Take n j) ≡ Ok (with_worker (with_cell a j (record it { lock = Some n })) n (record me { hand = Some j }))
 take-next a n j me it w c h f =
     let done : Worker → Cell → Result State Refused = λ me it. Ok (with_worker (with_cell a j (record it { lock = Some n })) n (record me { hand = Some j })) in
-    ap (λ o. given o NoWorker (λ me. given (cell_of a j) NoTile (λ it. unless me.hand HandsFull (unless it.lock Held (done me it))))) w
-    ∙ ap (λ o. given o NoTile (λ it. unless me.hand HandsFull (unless it.lock Held (done me it)))) c
+    ap (λ o. if_there o NoWorker (λ me. if_there (cell_of a j) NoTile (λ it. unless me.hand HandsFull (unless it.lock Held (done me it))))) w
+    ∙ ap (λ o. if_there o NoTile (λ it. unless me.hand HandsFull (unless it.lock Held (done me it)))) c
     ∙ ap (λ o. unless o HandsFull (unless it.lock Held (done me it))) h
     ∙ ap (λ o. unless o Held (done me it)) f
 
 take-refused : (a : State) (n j h : ℕ) (me : Worker) (it : Cell) → worker_of a n ≡ Some me → cell_of a j ≡ Some it → me.hand ≡ None → it.lock ≡ Some h → next_state a (Take n j) ≡ Err (Held h)
 take-refused a n j h me it w c e f =
     let done : Worker → Cell → Result State Refused = λ me it. Ok (with_worker (with_cell a j (record it { lock = Some n })) n (record me { hand = Some j })) in
-    ap (λ o. given o NoWorker (λ me. given (cell_of a j) NoTile (λ it. unless me.hand HandsFull (unless it.lock Held (done me it))))) w
-    ∙ ap (λ o. given o NoTile (λ it. unless me.hand HandsFull (unless it.lock Held (done me it)))) c
+    ap (λ o. if_there o NoWorker (λ me. if_there (cell_of a j) NoTile (λ it. unless me.hand HandsFull (unless it.lock Held (done me it))))) w
+    ∙ ap (λ o. if_there o NoTile (λ it. unless me.hand HandsFull (unless it.lock Held (done me it)))) c
     ∙ ap (λ o. unless o HandsFull (unless it.lock Held (done me it))) e
     ∙ ap (λ o. unless o Held (done me it)) f
 
 -- what stands behind the two first causes
 reached : (a : State) (n j : ℕ) (me : Worker) (it : Cell) (rest : Worker → Cell → Result State Refused) → worker_of a n ≡ Some me → cell_of a j ≡ Some it
-    → given (worker_of a n) NoWorker (λ me. given (cell_of a j) NoTile (λ it. rest me it)) ≡ rest me it
+    → if_there (worker_of a n) NoWorker (λ me. if_there (cell_of a j) NoTile (λ it. rest me it)) ≡ rest me it
 reached a n j me it rest w c =
-    ap (λ o. given o NoWorker (λ me. given (cell_of a j) NoTile (λ it. rest me it))) w ∙ ap (λ o. given o NoTile (λ it. rest me it)) c
+    ap (λ o. if_there o NoWorker (λ me. if_there (cell_of a j) NoTile (λ it. rest me it))) w ∙ ap (λ o. if_there o NoTile (λ it. rest me it)) c
 
 passed : (b : Bool) (r : Refused) (x : Result State Refused) → b ≡ true → provided b r x ≡ x
 passed b r x e = ap (λ t. provided t r x) e
 
-names-one : (o : Option ℕ) (n : ℕ) → o ≡ Some n → names o n ≡ true
-names-one o n e = ap (λ p. names p n) e ∙ eq-eqb n n refl
+names-one : (o : Option ℕ) (n : ℕ) → o ≡ Some n → names_worker o n ≡ true
+names-one o n e = ap (λ p. names_worker p n) e ∙ eq-eqb n n refl
 
 true-or : (b c d : Bool) → b ≡ true → (b || c) ≡ (b || d)
 true-or true c d e = refl
@@ -212,8 +212,8 @@ module _ {T : Type 0} where
       let home : it.home ≡ true = or-true (nat_lt (lock_of s j) 2) (filled j) (at-place inside j true) in
       let gone : false ≡ (nat_lt (lock_of s j) 2 || out j) = sym (or-false (nat_lt (lock_of s j) 2) (out j) (high (lock_of s j) n was) (at-place inside j false)) in
       let new : record it { home = false } ≡ cell_at s out j = (λ x. record { claim = it.claim; lock = it.lock; marked = it.marked; home = gone x }) in
-      reached a n j (worker_of_view v) it (λ me it. provided (names it.lock n) NotHolder (provided it.home IsOut (Ok (with_cell a j (record it { home = false }))))) (worker-lives s sh filled k v at live) (cell-there s sh.workers filled j there)
-      ∙ passed (names it.lock n) NotHolder (provided it.home IsOut (Ok (with_cell a j (record it { home = false })))) (names-one it.lock n (named-some 2 (lock_of s j) n was))
+      reached a n j (worker_of_view v) it (λ me it. provided (names_worker it.lock n) NotHolder (provided it.home IsOut (Ok (with_cell a j (record it { home = false }))))) (worker-lives s sh filled k v at live) (cell-there s sh.workers filled j there)
+      ∙ passed (names_worker it.lock n) NotHolder (provided it.home IsOut (Ok (with_cell a j (record it { home = false })))) (names-one it.lock n (named-some 2 (lock_of s j) n was))
       ∙ passed it.home IsOut (Ok (with_cell a j (record it { home = false }))) home
       ∙ ap (λ z. Ok z)
       (states-same (with_cell a j (record it { home = false })) (shown sh.workers out s)
@@ -234,8 +234,8 @@ module _ {T : Type 0} where
       let gone : not it.home ≡ true = ap not (or-false (nat_lt (lock_of s j) 2) (out j) (high (lock_of s j) n was) (at-place inside j false)) in
       let home : true ≡ (nat_lt (lock_of s j) 2 || filled j) = sym (or-true (nat_lt (lock_of s j) 2) (filled j) (at-place inside j true)) in
       let new : record it { home = true } ≡ cell_at s filled j = (λ x. record { claim = it.claim; lock = it.lock; marked = it.marked; home = home x }) in
-      reached a n j (worker_of_view v) it (λ me it. provided (names it.lock n) NotHolder (provided (not it.home) IsHome (Ok (with_cell a j (record it { home = true }))))) (worker-lives s sh out k v at live) (cell-there s sh.workers out j there)
-      ∙ passed (names it.lock n) NotHolder (provided (not it.home) IsHome (Ok (with_cell a j (record it { home = true })))) (names-one it.lock n (named-some 2 (lock_of s j) n was))
+      reached a n j (worker_of_view v) it (λ me it. provided (names_worker it.lock n) NotHolder (provided (not it.home) IsHome (Ok (with_cell a j (record it { home = true }))))) (worker-lives s sh out k v at live) (cell-there s sh.workers out j there)
+      ∙ passed (names_worker it.lock n) NotHolder (provided (not it.home) IsHome (Ok (with_cell a j (record it { home = true })))) (names-one it.lock n (named-some 2 (lock_of s j) n was))
       ∙ passed (not it.home) IsHome (Ok (with_cell a j (record it { home = true }))) gone
       ∙ ap (λ z. Ok z)
       (states-same (with_cell a j (record it { home = true })) (shown sh.workers filled s)
@@ -266,10 +266,10 @@ module _ {T : Type 0} where
       let new : record it { marked = true } ≡ cell_at t out j =
       (λ x. record { claim = named 1 (sym (claim j) x); lock = named 2 (sym (lock j) x); marked = set x; home = nat_lt (sym (lock j) x) 2 || out j }) in
       let done : Result State Refused = Ok (with_cell a j (record it { marked = true })) in
-      reached a n j (worker_of_view v) it (λ me it. provided (names it.lock n) NotHolder (provided (not it.home) IsHome (provided (names it.claim n) NotClaimant (provided (not it.marked) Marked (Ok (with_cell a j (record it { marked = true }))))))) (worker-lives s sh out k v at live) (cell-there s sh.workers out j there)
-      ∙ passed (names it.lock n) NotHolder (provided (not it.home) IsHome (provided (names it.claim n) NotClaimant (provided (not it.marked) Marked done))) (names-one it.lock n (named-some 2 (lock_of s j) n was))
-      ∙ passed (not it.home) IsHome (provided (names it.claim n) NotClaimant (provided (not it.marked) Marked done)) gone
-      ∙ passed (names it.claim n) NotClaimant (provided (not it.marked) Marked done) (names-one it.claim n (named-some 1 (claim_of s j) n (own-claim s sh k v n j at mine)))
+      reached a n j (worker_of_view v) it (λ me it. provided (names_worker it.lock n) NotHolder (provided (not it.home) IsHome (provided (names_worker it.claim n) NotClaimant (provided (not it.marked) Marked (Ok (with_cell a j (record it { marked = true }))))))) (worker-lives s sh out k v at live) (cell-there s sh.workers out j there)
+      ∙ passed (names_worker it.lock n) NotHolder (provided (not it.home) IsHome (provided (names_worker it.claim n) NotClaimant (provided (not it.marked) Marked done))) (names-one it.lock n (named-some 2 (lock_of s j) n was))
+      ∙ passed (not it.home) IsHome (provided (names_worker it.claim n) NotClaimant (provided (not it.marked) Marked done)) gone
+      ∙ passed (names_worker it.claim n) NotClaimant (provided (not it.marked) Marked done) (names-one it.claim n (named-some 1 (claim_of s j) n (own-claim s sh k v n j at mine)))
       ∙ passed (not it.marked) Marked done clear
       ∙ ap (λ z. Ok z)
       (states-same (with_cell a j (record it { marked = true })) (shown sh.workers out t)
@@ -300,8 +300,8 @@ module _ {T : Type 0} where
       let new : record it { lock = None } ≡ cell_at t filled j =
       (λ x. record { claim = named 1 (sym (claim j) x); lock = sym (named-none 2 (lock_of t j) (omega (arith, here, le))) x; marked = eqb (sym (mark j) x) 1; home = home x }) in
       let after : Worker → Cell → Result State Refused = λ me it. Ok (with_worker (with_cell a j (record it { lock = None })) n (record me { hand = None })) in
-      reached a n j me it (λ me it. provided (names it.lock n) NotHolder (provided it.home IsOut (after me it))) (worker-lives s sh filled k v at live) (cell-there s sh.workers filled j there)
-      ∙ passed (names it.lock n) NotHolder (provided it.home IsOut (after me it)) (names-one it.lock n (named-some 2 (lock_of s j) n was))
+      reached a n j me it (λ me it. provided (names_worker it.lock n) NotHolder (provided it.home IsOut (after me it))) (worker-lives s sh filled k v at live) (cell-there s sh.workers filled j there)
+      ∙ passed (names_worker it.lock n) NotHolder (provided it.home IsOut (after me it)) (names-one it.lock n (named-some 2 (lock_of s j) n was))
       ∙ passed it.home IsOut (after me it) full
       ∙ ap (λ z. Ok z)
       (states-same (with_worker (with_cell a j (record it { lock = None })) n (record me { hand = None })) (shown sh.workers filled t)
@@ -361,7 +361,7 @@ module _ {T : Type 0} where
       ⊎_elim (λ q. let e : n ≡ u.first = ap (λ y. y.first) q.1 in omega (arith, e, h.0, above))
       (λ q. q.0 (one-seat s sh k j x v u at q.1 (omega (arith, within v.first x v.end (omega (arith, above)) below)) (omega (arith, within u.first x u.end (omega (arith, h.0)) (omega (arith, h.0, h.1))))))
       (at_set s.views k j (lower x v) u bt) in
-      ap (λ o. given o NoWorker (λ me. provided (nat_lt me.first x && nat_lt x me.end) BadRange (done me))) (worker-lives s sh inside k v at live)
+      ap (λ o. if_there o NoWorker (λ me. provided (nat_lt me.first x && nat_lt x me.end) BadRange (done me))) (worker-lives s sh inside k v at live)
       ∙ passed (nat_lt me.first x && nat_lt x me.end) BadRange (done me) (grind (arith, nat_tests))
       ∙ ap (λ z. Ok z)
       (states-same (with_worker (with_worker a n (record me { end = x })) x (ranging x me.end)) (shown sh.workers inside (with_views s all)) refl
@@ -374,13 +374,13 @@ module _ {T : Type 0} where
       (λ i ne. sym (last-off cut i (upper x v) (λ e. ne (omega (arith, e)))))))
 
   join-event : (s : Table T) → (sh : Shows s) → (k other : ℕ) (v w : View T) (inside : ℕ → Bool) → Knows s k v → Knows s other w → other ≢ k → v.first < v.end → w.first < w.end → w.first ≡ v.end → w.hand ≡ Empty
-      → next_state (shown sh.workers inside s) (Join v.first w.first) ≡ Ok (shown sh.workers inside (with_views s (slice_set (slice_set s.views k (joined v w)) other nobody)))
+      → next_state (shown sh.workers inside s) (Join v.first w.first) ≡ Ok (shown sh.workers inside (with_views s (slice_set (slice_set s.views k (joined_views v w)) other nobody)))
   join-event s sh k other v w inside at bt apart live alive follows empty =
       let n : ℕ = v.first in
       let a : State = shown sh.workers inside s in
       let me : Worker = worker_of_view v in
       let its : Worker = worker_of_view w in
-      let both : View T = joined v w in
+      let both : View T = joined_views v w in
       let grown : List (View T) = slice_set s.views k both in
       let left : List (View T) = slice_set grown other nobody in
       let ct : get_elem? grown other ≡ some w = set_else s.views k other both apart ∙ bt in
@@ -392,9 +392,9 @@ module _ {T : Type 0} where
       (λ r. q.0 (one-seat s sh other j w.first w u bt r.1 (omega (arith, within w.first w.first w.end (omega arith) alive)) (omega (arith, within u.first w.first u.end (omega (arith, h.0)) (omega (arith, h.0, h.1))))))
       (at_set s.views k j both u q.1))
       (at_set grown other j nobody u dt) in
-      ap (λ o. given o NoWorker (λ me. given (if_next me (worker_of a w.first)) BadRange (λ its. unless its.hand StillHolds (done me its)))) (worker-lives s sh inside k v at live)
-      ∙ ap (λ o. given (if_next me o) BadRange (λ its. unless its.hand StillHolds (done me its))) (worker-lives s sh inside other w bt alive)
-      ∙ ap (λ t. given (if t then Some its else None) BadRange (λ its. unless its.hand StillHolds (done me its))) (eq-eqb w.first v.end follows)
+      ap (λ o. if_there o NoWorker (λ me. if_there (if_next me (worker_of a w.first)) BadRange (λ its. unless its.hand StillHolds (done me its)))) (worker-lives s sh inside k v at live)
+      ∙ ap (λ o. if_there (if_next me o) BadRange (λ its. unless its.hand StillHolds (done me its))) (worker-lives s sh inside other w bt alive)
+      ∙ ap (λ t. if_there (if t then Some its else None) BadRange (λ its. unless its.hand StillHolds (done me its))) (eq-eqb w.first v.end follows)
       ∙ ap (λ o. unless o StillHolds (done me its)) (ap place_held empty)
       ∙ ap (λ z. Ok z)
       (states-same (with_worker (with_worker a n (record me { end = w.end })) w.first (ranging w.first w.first)) (shown sh.workers inside (with_views s left)) refl

@@ -8,7 +8,7 @@ use Rattle.tile_machine.specs.At.{At}
 use Rattle.tile_table.specs.declared.view.View.{View}
 use Rattle.tile_table.specs.declared.view.Hand.{Hand}
 use Rattle.tile_table.specs.declared.view.Hand.TheVariants.{Empty, Holds}
-use Rattle.tile_table.specs.Counts.{bit, same, total}
+use Rattle.tile_table.specs.Counts.{bit, same_bit, total}
 use Rattle.tile_table.specs.Views.{tiles_by, held, nobody, covering, claiming, taking, marking, holding, IsAnother}
 use Rattle.tile_table.specs.Shows.{Table, Shows, Knows, claim_of, lock_of, mark_of}
 use Rattle.tile_table.proofs.Bits.{bit-le, same-eq, same-some, both-some, within, outside, below-some}
@@ -57,7 +57,7 @@ module _ {T : Type 0} where
       let b : claim_of s j ≡ c.0 + 1 = own-claim s sh i u c.0 j bt c.1 in
       let one : c.0 ≡ v.first = omega arith in
       let its : 0 < claiming v.first j u = subst (λ w. 0 < claiming w j u) one c.1 in
-      let le : same (claim_of s j) (v.first + 1) ≤ 1 = bit-le (eqb (claim_of s j) (v.first + 1)) in
+      let le : same_bit (claim_of s j) (v.first + 1) ≤ 1 = bit-le (eqb (claim_of s j) (v.first + 1)) in
       dite (ℕ_discrete i k)
       (λ e. let q : u ≡ v = one-view s.views i u v bt (subst (λ n. get_elem? s.views n ≡ some v) (sym e) at) in
       let r : marking j u ≡ marking j v = ap (marking j) q in omega arith)

@@ -12,7 +12,7 @@ use Rattle.atomic_table.proofs.Lists.{at_map}
 use Rattle.tile_machine.specs.At.{At}
 use Rattle.tile_table.specs.declared.view.View.{View}
 use Rattle.tile_table.specs.declared.view.Hand.TheVariants.{Holds}
-use Rattle.tile_table.specs.Counts.{bit, same, times_in, pairs_in, total}
+use Rattle.tile_table.specs.Counts.{bit, same_bit, times_in, pair_times, total}
 use Rattle.tile_table.specs.Views.{tiles_by, nobody, opening_view, claiming, taking, marking}
 use Rattle.tile_table.specs.Shows.{Table, Shows, Knows, claim_of, mark_of}
 use Rattle.tile_table.proofs.Bits.{same-ne}
@@ -61,10 +61,10 @@ module _ {T : Type 0} where
             };
         locks =
             record {
-              holders = λ n i. omega (arith, ap (λ x. same x (n + 2)) (word (3 * i + 1)), same-ne 0 (n + 2) (λ e. omega arith));
+              holders = λ n i. omega (arith, ap (λ x. same_bit x (n + 2)) (word (3 * i + 1)), same-ne 0 (n + 2) (λ e. omega arith));
               taken = λ j u i m at. each (λ u. (i : ℕ) (m : Bool) → u.hand ≡ Holds i m → 0 < taking u.first i u) (λ i m e. absurd (not-empty i m e)) j u at i m;
             };
-        claims = λ n i. omega (arith, ap (λ x. same x (n + 1)) (word (3 * i)), same-ne 0 (n + 1) (λ e. omega arith));
+        claims = λ n i. omega (arith, ap (λ x. same_bit x (n + 1)) (word (3 * i)), same-ne 0 (n + 1) (λ e. omega arith));
         marks =
             record {
               marks = λ i. omega (arith, word (3 * i + 2));
@@ -77,7 +77,7 @@ module _ {T : Type 0} where
         reads =
             record {
               known = λ j u i at. each (λ u. (i : ℕ) → 0 < times_in i u.known → mark_of s i ≡ 1) (λ i h. absurd (omega (arith, h))) j u at i;
-              seen = λ j u i by at. each (λ u. (i by : ℕ) → 0 < pairs_in i by u.seen → claim_of s i ≡ by + 1) (λ i by h. absurd (omega (arith, h))) j u at i by;
-              lost = λ j u i h at. each (λ u. (i h : ℕ) → 0 < pairs_in i h u.lost → 0 < total (taking h i) s.views) (λ i h p. absurd (omega (arith, p))) j u at i h;
+              seen = λ j u i by at. each (λ u. (i by : ℕ) → 0 < pair_times i by u.seen → claim_of s i ≡ by + 1) (λ i by h. absurd (omega (arith, h))) j u at i by;
+              lost = λ j u i h at. each (λ u. (i h : ℕ) → 0 < pair_times i h u.lost → 0 < total (taking h i) s.views) (λ i h p. absurd (omega (arith, p))) j u at i h;
             };
       }

@@ -10,7 +10,7 @@ use Rattle.atomic_table.proofs.Lists.{set_here, set_else}
 use Rattle.tile_machine.specs.At.{At}
 use Rattle.tile_table.specs.declared.view.View.{View}
 use Rattle.tile_table.specs.declared.view.Hand.TheVariants.{Empty, Holds}
-use Rattle.tile_table.specs.Counts.{bit, same, total}
+use Rattle.tile_table.specs.Counts.{bit, same_bit, total}
 use Rattle.tile_table.specs.Views.{tiles_by, held, holding, with_no_hand}
 use Rattle.tile_table.specs.Shows.{Table, Shows, Knows, claim_of, lock_of, mark_of}
 use Rattle.tile_table.proofs.Bits.{bit-le, same-ne, same-shift, both-same, both-other}
@@ -55,12 +55,12 @@ module _ {T : Type 0} where
         slots = length-set s.homes j (some (Some t));
         holders =
             λ n i. dite (ℕ_discrete i j)
-            (λ e. subst (λ x. total (holding n x) s.views + holding n x w ≡ same (slice_index ws (3 * x + 1)) (n + 2) + holding n x v) (sym e)
-            (omega (arith, both-same v.first j n j refl, on n j, sh.locks.holders n j, same-ne (bit m) (n + 2) (λ q. omega (arith, le)), ap (λ x. same x (n + 2)) here, ap (λ x. same x (n + 2)) was, same-shift v.first n 2)))
-            (λ ne. omega (arith, both-other v.first j n i (λ e. ne (sym e)), on n i, sh.locks.holders n i, ap (λ x. same x (n + 2)) (lock i ne)));
+            (λ e. subst (λ x. total (holding n x) s.views + holding n x w ≡ same_bit (slice_index ws (3 * x + 1)) (n + 2) + holding n x v) (sym e)
+            (omega (arith, both-same v.first j n j refl, on n j, sh.locks.holders n j, same-ne (bit m) (n + 2) (λ q. omega (arith, le)), ap (λ x. same_bit x (n + 2)) here, ap (λ x. same_bit x (n + 2)) was, same-shift v.first n 2)))
+            (λ ne. omega (arith, both-other v.first j n i (λ e. ne (sym e)), on n i, sh.locks.holders n i, ap (λ x. same_bit x (n + 2)) (lock i ne)));
         taken = λ i n e. absurd (not-empty i n e);
         more_takes = λ n i. omega arith;
-        claims = λ n i. omega (arith, sh.claims n i, ap (λ x. same x (n + 1)) (claims i));
+        claims = λ n i. omega (arith, sh.claims n i, ap (λ x. same_bit x (n + 1)) (claims i));
         claims_stay = λ n i e. claims i ∙ e;
         marks = λ i. omega (arith, sh.marks.marks i, marks i);
         once = λ i. omega (arith, sh.marks.once i, marks i);

@@ -3,7 +3,7 @@ use Rattle.std.proofs.Common.{◌≡◌, ℕ, ◌+◌, ◌<◌, ◌≤◌, Bool,
 use Rattle.std.specs.Prelude.{slice_set}
 use Rattle.tile_table.specs.declared.view.View.{View}
 use Rattle.tile_table.specs.declared.view.Hand.TheVariants.{Holds}
-use Rattle.tile_table.specs.Counts.{bit, times_in, pairs_in, total}
+use Rattle.tile_table.specs.Counts.{bit, times_in, pair_times, total}
 use Rattle.tile_table.specs.Views.{nobody, covering, claiming, taking, marking, holding}
 use Rattle.tile_table.specs.Shows.{Table, Shows, Knows, claim_of, mark_of}
 use Rattle.tile_table.proofs.Sums.{total-same, each-set}
@@ -15,8 +15,8 @@ module _ {T : Type 0} where
 
   pub looked : (s : Table T) → (sh : Shows s) → (k : ℕ) (v : View T) → Knows s k v → v.first < v.end
       → (S L : List (ℕ × ℕ)) (K : List ℕ)
-      → ((i by : ℕ) → 0 < pairs_in i by S → claim_of s i ≡ by + 1)
-      → ((j h : ℕ) → 0 < pairs_in j h L → 0 < total (taking h j) s.views)
+      → ((i by : ℕ) → 0 < pair_times i by S → claim_of s i ≡ by + 1)
+      → ((j h : ℕ) → 0 < pair_times j h L → 0 < total (taking h j) s.views)
       → ((j : ℕ) → 0 < times_in j K → mark_of s j ≡ 1)
       → Shows record { words = s.words; homes = s.homes; views = slice_set s.views k (reading v S L K) }
   looked s sh k v at live S L K seen lost known =
@@ -54,9 +54,9 @@ module _ {T : Type 0} where
         reads =
             record {
               known = λ j u i bt. each-set (λ j u. (i : ℕ) → 0 < times_in i u.known → mark_of s i ≡ 1) s.views k w known (λ j u bt ne i h. sh.reads.known j u i bt h) j u bt i;
-              seen = λ j u i by bt. each-set (λ j u. (i by : ℕ) → 0 < pairs_in i by u.seen → claim_of s i ≡ by + 1) s.views k w seen (λ j u bt ne i by h. sh.reads.seen j u i by bt h) j u bt i by;
+              seen = λ j u i by bt. each-set (λ j u. (i by : ℕ) → 0 < pair_times i by u.seen → claim_of s i ≡ by + 1) s.views k w seen (λ j u bt ne i by h. sh.reads.seen j u i by bt h) j u bt i by;
               lost =
-                  λ j u i h bt. each-set (λ j u. (i h : ℕ) → 0 < pairs_in i h u.lost → 0 < total (taking h i) (slice_set s.views k w)) s.views k w
+                  λ j u i h bt. each-set (λ j u. (i h : ℕ) → 0 < pair_times i h u.lost → 0 < total (taking h i) (slice_set s.views k w)) s.views k w
                   (λ i h p. omega (arith, total-same (taking h i) s.views k v w at refl, lost i h p))
                   (λ j u bt ne i h p. omega (arith, total-same (taking h i) s.views k v w at refl, sh.reads.lost j u i h bt p)) j u bt i h;
             };

@@ -6,7 +6,7 @@ use mathlib.Core.Logic.{dite}
 use native.Mathlib.Decide.{ℕ_discrete}
 use Rattle.tile_table.specs.declared.view.View.{View}
 use Rattle.tile_table.specs.declared.view.Hand.TheVariants.{Holds}
-use Rattle.tile_table.specs.Counts.{bit, same, times_in}
+use Rattle.tile_table.specs.Counts.{bit, same_bit, times_in}
 use Rattle.tile_table.specs.Views.{held, claiming, marking, holding, with_mark}
 use Rattle.tile_table.specs.Shows.{Table, Shows, Knows, claim_of, lock_of, mark_of}
 use Rattle.tile_table.proofs.Bits.{same-eq, same-ne, both-eq, within}
@@ -49,10 +49,10 @@ module _ {T : Type 0} where
       record {
         words = length-set s.words word 1;
         slots = refl;
-        holders = λ n i. omega (arith, sh.locks.holders n i, on n i, ap (λ x. same x (n + 2)) (locks i));
+        holders = λ n i. omega (arith, sh.locks.holders n i, on n i, ap (λ x. same_bit x (n + 2)) (locks i));
         taken = λ i n e. sh.locks.taken k v i m at (has ∙ ap (λ x. Holds x m) (same-place j i true n e));
         more_takes = λ n i. omega arith;
-        claims = λ n i. omega (arith, sh.claims n i, ap (λ x. same x (n + 1)) (claims i));
+        claims = λ n i. omega (arith, sh.claims n i, ap (λ x. same_bit x (n + 1)) (claims i));
         claims_stay = λ n i e. claims i ∙ e;
         marks =
             λ i. dite (ℕ_discrete i j)

@@ -6,7 +6,7 @@ use Rattle.atomic_table.specs.Table.{Act, keeps, takes, gives, stepped, Valid, c
 use Rattle.tile_machine.specs.At.{At}
 use Rattle.tile_table.specs.declared.view.View.{View}
 use Rattle.tile_table.specs.declared.view.Hand.TheVariants.{Empty, Holds}
-use Rattle.tile_table.specs.Counts.{bit, times_in, pairs_in, total}
+use Rattle.tile_table.specs.Counts.{bit, times_in, pair_times, total}
 use Rattle.tile_table.specs.Views.{tiles_by, claiming, marking, taking, with_claim, with_seen, with_take, with_known, with_lost, with_mark, with_no_hand}
 use Rattle.tile_table.specs.Shows.{Table, Shows, Knows, claim_of, lock_of, mark_of}
 use Rattle.tile_table.specs.Inner.Steps.{Sat, claim_read, claim_seen, claimed, claim_told, tried, lock_told, Took, LostTo, marked, freed}
@@ -21,12 +21,12 @@ use Rattle.tile_table.proofs.Claiming.{claims-place, unmarked, unclaimed}
 use Rattle.tile_table.proofs.MarkSet.{sets-mark}
 
 -- the list of a seat has one pair more
-one-more : (a b j h : ℕ) (xs : List (ℕ × ℕ)) (P : Type 0) → 0 < pairs_in a b (xs ++ (j, h) ∷ []) → (0 < pairs_in a b xs → P) → (j ≡ a → h ≡ b → P) → P
+one-more : (a b j h : ℕ) (xs : List (ℕ × ℕ)) (P : Type 0) → 0 < pair_times a b (xs ++ (j, h) ∷ []) → (0 < pair_times a b xs → P) → (j ≡ a → h ≡ b → P) → P
 one-more a b j h xs P pos old new =
     let m = pairs-append a b xs ((j, h) ∷ []) in
-    cases (pairs_in a b xs) refl m
+    cases (pair_times a b xs) refl m
   where
-    cases : (n : ℕ) → pairs_in a b xs ≡ n → pairs_in a b (xs ++ (j, h) ∷ []) ≡ pairs_in a b xs + pairs_in a b ((j, h) ∷ []) → P
+    cases : (n : ℕ) → pair_times a b xs ≡ n → pair_times a b (xs ++ (j, h) ∷ []) ≡ pair_times a b xs + pair_times a b ((j, h) ∷ []) → P
     cases zero e m = let t = both-some j h a b (omega (arith, pos, m, e)) in new t.0 t.1
     cases (suc n) e m = old (omega (arith, e))
 
@@ -54,7 +54,7 @@ module _ {T : Type 0} where
       refl
 
   had-claim : (s : Table T) → Shows s → (id : ℕ) (me : Sat T) (i x : ℕ) → Knows s id me.0 → me.0.first < me.0.end → i < length s.homes → claim_of s i ≡ 0 → x ≡ me.0.first + 1
-      → Goes s id me (3 * i) x (λ r. (r ≡ (with_claim me.0 i, me.1)) × (times_in i me.0.marks ≡ 0) × ((by : ℕ) → pairs_in by i me.0.claims ≡ 0))
+      → Goes s id me (3 * i) x (λ r. (r ≡ (with_claim me.0 i, me.1)) × (times_in i me.0.marks ≡ 0) × ((by : ℕ) → pair_times by i me.0.claims ≡ 0))
   had-claim s sh id me i x at live inside found e =
       let v = me.0 in (
         with_claim v i,

@@ -7,7 +7,7 @@ use Rattle.tile_machine.specs.At.{At}
 use Rattle.tile_table.specs.declared.view.View.{View}
 use Rattle.tile_table.specs.declared.view.Hand.{Hand}
 use Rattle.tile_table.specs.declared.view.Hand.TheVariants.{Holds}
-use Rattle.tile_table.specs.Counts.{bit, same, times_in, pairs_in, total}
+use Rattle.tile_table.specs.Counts.{bit, same_bit, times_in, pair_times, total}
 use Rattle.tile_table.specs.Views.{tiles_by, nobody, covering, claiming, taking, marking, holding}
 use Rattle.tile_table.specs.Shows.{Table, Shows, Knows, claim_of, mark_of}
 use Rattle.tile_table.proofs.Sums.{total-set, total-same, each-set}
@@ -24,10 +24,10 @@ module _ {T : Type 0} where
   pub record Keeps (s : Table T) (world goal : List T) (k : ℕ) (v w : View T) (ws : List ℕ) (hs : List (Maybe (Option T))) : Type 0 where
     pub words : length ws ≡ length s.words
     pub slots : length hs ≡ length s.homes
-    pub holders : (n i : ℕ) → total (holding n i) s.views + holding n i w ≡ same (slice_index ws (3 * i + 1)) (n + 2) + holding n i v
+    pub holders : (n i : ℕ) → total (holding n i) s.views + holding n i w ≡ same_bit (slice_index ws (3 * i + 1)) (n + 2) + holding n i v
     pub taken : (i : ℕ) (m : Bool) → w.hand ≡ Holds i m → 0 < taking v.first i w
     pub more_takes : (n i : ℕ) → taking n i v ≤ taking n i w
-    pub claims : (n i : ℕ) → total (claiming n i) s.views + claiming n i w ≡ same (slice_index ws (3 * i)) (n + 1) + claiming n i v
+    pub claims : (n i : ℕ) → total (claiming n i) s.views + claiming n i w ≡ same_bit (slice_index ws (3 * i)) (n + 1) + claiming n i v
     pub claims_stay : (n i : ℕ) → claim_of s i ≡ n + 1 → slice_index ws (3 * i) ≡ n + 1
     pub marks : (i : ℕ) → total (marking i) s.views + marking i w ≡ slice_index ws (3 * i + 2) + marking i v
     pub once : (i : ℕ) → slice_index ws (3 * i + 2) ≤ 1
@@ -76,9 +76,9 @@ module _ {T : Type 0} where
         reads =
             record {
               known = λ j u i bt. each-set (λ j u. (i : ℕ) → 0 < times_in i u.known → slice_index ws (3 * i + 2) ≡ 1) s.views k w (λ i h. keep.marks_stay i (sh.reads.known k v i at h)) (λ j u bt ne i h. keep.marks_stay i (sh.reads.known j u i bt h)) j u bt i;
-              seen = λ j u i by bt. each-set (λ j u. (i by : ℕ) → 0 < pairs_in i by u.seen → slice_index ws (3 * i) ≡ by + 1) s.views k w (λ i by h. keep.claims_stay by i (sh.reads.seen k v i by at h)) (λ j u bt ne i by h. keep.claims_stay by i (sh.reads.seen j u i by bt h)) j u bt i by;
+              seen = λ j u i by bt. each-set (λ j u. (i by : ℕ) → 0 < pair_times i by u.seen → slice_index ws (3 * i) ≡ by + 1) s.views k w (λ i by h. keep.claims_stay by i (sh.reads.seen k v i by at h)) (λ j u bt ne i by h. keep.claims_stay by i (sh.reads.seen j u i by bt h)) j u bt i by;
               lost =
-                  λ j u i h bt. each-set (λ j u. (i h : ℕ) → 0 < pairs_in i h u.lost → 0 < total (taking h i) (slice_set s.views k w)) s.views k w
+                  λ j u i h bt. each-set (λ j u. (i h : ℕ) → 0 < pair_times i h u.lost → 0 < total (taking h i) (slice_set s.views k w)) s.views k w
                   (λ i h p. omega (arith, total-set (taking h i) s.views k v w at, keep.more_takes h i, sh.reads.lost k v i h at p))
                   (λ j u bt ne i h p. omega (arith, total-set (taking h i) s.views k v w at, keep.more_takes h i, sh.reads.lost j u i h bt p)) j u bt i h;
             };

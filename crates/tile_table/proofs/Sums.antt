@@ -3,13 +3,13 @@ use Rattle.std.proofs.Common.{◌≡◌, ℕ, zero, suc, ◌+◌, ◌<◌, ◌�
 use Rattle.std.proofs.Math.ListN.{get_elem?}
 use mathlib.Core.Option.{some, some-injective, some-ne-none}
 use Rattle.atomic_table.proofs.Lists.{at_set}
-use Rattle.tile_table.specs.Counts.{times_in, pairs_in, total}
+use Rattle.tile_table.specs.Counts.{times_in, pair_times, total}
 
 pub times-append : (x : ℕ) (xs ys : List ℕ) → times_in x (xs ++ ys) ≡ times_in x xs + times_in x ys
 times-append x [] ys = omega arith
 times-append x (y ∷ xs) ys = omega (arith, times-append x xs ys)
 
-pub pairs-append : (a b : ℕ) (xs ys : List (ℕ × ℕ)) → pairs_in a b (xs ++ ys) ≡ pairs_in a b xs + pairs_in a b ys
+pub pairs-append : (a b : ℕ) (xs ys : List (ℕ × ℕ)) → pair_times a b (xs ++ ys) ≡ pair_times a b xs + pair_times a b ys
 pairs-append a b [] ys = omega arith
 pairs-append a b (p ∷ xs) ys = omega (arith, pairs-append a b xs ys)
 

@@ -8,7 +8,7 @@ use native.Mathlib.Decide.{ℕ_discrete}
 use Rattle.atomic_table.proofs.Lists.{set_else}
 use Rattle.tile_table.specs.declared.view.View.{View}
 use Rattle.tile_table.specs.declared.view.Hand.TheVariants.{Empty, Holds}
-use Rattle.tile_table.specs.Counts.{bit, same, total}
+use Rattle.tile_table.specs.Counts.{bit, same_bit, total}
 use Rattle.tile_table.specs.Views.{held, holding, with_take}
 use Rattle.tile_table.specs.Shows.{Table, Shows, Knows, claim_of, lock_of, mark_of}
 use Rattle.tile_table.proofs.Bits.{bit-le, same-ne, same-shift, both-same, both-other, both-eq}
@@ -41,12 +41,12 @@ module _ {T : Type 0} where
         slots = length-set s.homes j none;
         holders =
             λ n i. dite (ℕ_discrete i j)
-            (λ e. subst (λ x. total (holding n x) s.views + holding n x w ≡ same (slice_index ws (3 * x + 1)) (n + 2) + holding n x v) (sym e)
-            (omega (arith, both-same v.first j n j refl, off n j, sh.locks.holders n j, same-ne (lock_of s j) (n + 2) (λ q. omega (arith, free, le)), ap (λ x. same x (n + 2)) here, same-shift v.first n 2)))
-            (λ ne. omega (arith, both-other v.first j n i (λ e. ne (sym e)), off n i, sh.locks.holders n i, ap (λ x. same x (n + 2)) (lock i ne)));
+            (λ e. subst (λ x. total (holding n x) s.views + holding n x w ≡ same_bit (slice_index ws (3 * x + 1)) (n + 2) + holding n x v) (sym e)
+            (omega (arith, both-same v.first j n j refl, off n j, sh.locks.holders n j, same-ne (lock_of s j) (n + 2) (λ q. omega (arith, free, le)), ap (λ x. same_bit x (n + 2)) here, same-shift v.first n 2)))
+            (λ ne. omega (arith, both-other v.first j n i (λ e. ne (sym e)), off n i, sh.locks.holders n i, ap (λ x. same_bit x (n + 2)) (lock i ne)));
         taken = λ i n e. omega (arith, pairs-append v.first i v.takes ((v.first, j) ∷ []), both-eq v.first j v.first i refl (same-place j i m n e));
         more_takes = λ n i. omega (arith, pairs-append n i v.takes ((v.first, j) ∷ []));
-        claims = λ n i. omega (arith, sh.claims n i, ap (λ x. same x (n + 1)) (claims i));
+        claims = λ n i. omega (arith, sh.claims n i, ap (λ x. same_bit x (n + 1)) (claims i));
         claims_stay = λ n i e. claims i ∙ e;
         marks = λ i. omega (arith, sh.marks.marks i, marks i);
         once = λ i. omega (arith, sh.marks.once i, marks i);

@@ -8,7 +8,7 @@ use Rattle.tile_table.specs.declared.view.Hand.{Hand}
 use Rattle.tile_table.specs.declared.view.Hand.TheVariants.{Empty, Holds}
 use Rattle.tile_table.specs.declared.answer.Claim.TheVariants.{Mine, Taken}
 use Rattle.tile_table.specs.declared.seat.Turn.{Turn}
-use Rattle.tile_table.specs.Counts.{bit, times_in, pairs_in}
+use Rattle.tile_table.specs.Counts.{bit, times_in, pair_times}
 use Rattle.tile_table.specs.Inner.OutSlots.{slots_fit, is_none, is_only}
 use Rattle.tile_table.specs.Views.{tiles_by, with_claim, with_seen, with_take, with_known, knowing, with_lost, IsAnother}
 use Rattle.tile_table.specs.Inner.Steps.{Sat, claim_read, claim_told, lock_told, Took, LostTo}
@@ -93,9 +93,9 @@ module _ {T : Type 0} where
   claim-taken i m r (suc by) ne t = ap (λ y. y.0) t ∙ ap (λ n. with_seen m.0 i n) (omega arith)
 
   -- the claim that was just made
-  pub has-claim : (i : ℕ) (m r : Sat T) (n : ℕ) → n ≡ 0 → claim_told i m n r → 0 < pairs_in r.0.first i r.0.claims
+  pub has-claim : (i : ℕ) (m r : Sat T) (n : ℕ) → n ≡ 0 → claim_told i m n r → 0 < pair_times r.0.first i r.0.claims
   has-claim i m r zero e t =
-      subst (λ y. 0 < pairs_in y.0.first i y.0.claims) (sym t.0)
+      subst (λ y. 0 < pair_times y.0.first i y.0.claims) (sym t.0)
       (omega (arith, pairs-append m.0.first i m.0.claims ((m.0.first, i) ∷ []), both-eq m.0.first i m.0.first i refl refl))
   has-claim i m r (suc by) e t = absurd (omega arith)
 
@@ -190,7 +190,7 @@ module _ {X T Q : Type 0} where
         own_mark = λ p. marked ∙ t.own_mark (subst (λ xs. 0 < times_in j xs) (sym (ap (λ u. u.marks) e)) p);
         own_claim =
             λ p nil. marked ∙ t.own_claim
-            (subst (λ n. 0 < pairs_in n j m.0.claims) (sym (ap (λ u. u.first) e)) (subst (λ xs. 0 < pairs_in v.first j xs) (sym (ap (λ u. u.claims) e)) p))
+            (subst (λ n. 0 < pair_times n j m.0.claims) (sym (ap (λ u. u.first) e)) (subst (λ xs. 0 < pair_times v.first j xs) (sym (ap (λ u. u.claims) e)) p))
             (ap (times_in j) (ap (λ u. u.marks) e) ∙ nil);
       }
 

@@ -8,14 +8,14 @@ use Rattle.tile_table.specs.declared.answer.Unseen.{Unseen}
 use Rattle.tile_table.specs.declared.answer.Unseen.TheVariants.{Busy, OutOfMemory}
 use Rattle.tile_table.specs.declared.seat.Turn.{Turn}
 use Rattle.tile_table.specs.declared.seat.Closed.{Closed}
-use Rattle.tile_table.specs.Counts.{times_in, pairs_in}
+use Rattle.tile_table.specs.Counts.{times_in, pair_times}
 use Rattle.tile_table.specs.Views.{tiles_by, with_claim, with_seen, with_take, with_no_hand, knowing, with_lost, IsAnother}
 use Rattle.tile_table.specs.Seats.{turn_place, turn_marked, HasTurn}
 
 module _ {T : Type 0} where
   -- a claim: the seat has it now, of a place that it neither claimed nor marked before, or it saw who has
   abbrev pub Claimed : View T → ℕ → Claim → View T → Type 0
-  Claimed before i Mine after = (after ≡ with_claim before i) × (times_in i before.marks ≡ 0) × ((by : ℕ) → pairs_in by i before.claims ≡ 0)
+  Claimed before i Mine after = (after ≡ with_claim before i) × (times_in i before.marks ≡ 0) × ((by : ℕ) → pair_times by i before.claims ≡ 0)
   Claimed before i (Taken by) after = after ≡ with_seen before i by
 
   -- a lock that wasn't had: this worker's number stood in its word
@@ -50,7 +50,7 @@ module _ {X T Q : Type 0} where
     -- a tile that the seat marked is the finished one: a write is read back
     pub own_mark : 0 < times_in j before.marks → turn_marked had ≡ true
     -- a tile that it claimed under its own number, and hasn't marked, is the world's
-    pub own_claim : 0 < pairs_in before.first j before.claims → times_in j before.marks ≡ 0 → turn_marked had ≡ false
+    pub own_claim : 0 < pair_times before.first j before.claims → times_in j before.marks ≡ 0 → turn_marked had ≡ false
 
   -- the tiles of a table at its end: one for each place, done exactly where the seat's marks have the place, and then the finished one, else the world's
   pub record ClosedBy (v : View T) (tiles : List (Closed X T Q)) : Type 0 where

@@ -6,18 +6,18 @@ bit true = 1
 bit false = 0
 
 -- 1 where the numbers are one, else 0
-abbrev pub same : ℕ → ℕ → ℕ
-same a b = bit (a == b)
+abbrev pub same_bit : ℕ → ℕ → ℕ
+same_bit a b = bit (a == b)
 
 -- how often x stands in the list
 abbrev pub times_in : ℕ → List ℕ → ℕ
 times_in x [] = 0
-times_in x (y ∷ ys) = same y x + times_in x ys
+times_in x (y ∷ ys) = same_bit y x + times_in x ys
 
 -- how often the pair of a and b stands in the list
-abbrev pub pairs_in : ℕ → ℕ → List (ℕ × ℕ) → ℕ
-pairs_in a b [] = 0
-pairs_in a b (p ∷ ps) = bit ((p.0 == a) && (p.1 == b)) + pairs_in a b ps
+abbrev pub pair_times : ℕ → ℕ → List (ℕ × ℕ) → ℕ
+pair_times a b [] = 0
+pair_times a b (p ∷ ps) = bit ((p.0 == a) && (p.1 == b)) + pair_times a b ps
 
 -- f of each, added up
 abbrev pub total : {V : Type 0} → (V → ℕ) → List V → ℕ

@@ -12,7 +12,7 @@ use Rattle.tile_machine.specs.declared.event.Event.TheVariants.{Claim, Take, Bri
 use Rattle.tile_machine.specs.declared.refused.Refused.TheVariants.{Claimed, Held}
 use Rattle.tile_table.specs.Counts.{bit}
 use Rattle.tile_table.specs.Slots.{inside_by}
-use Rattle.tile_table.specs.Views.{opening_view, claiming, marking, with_claim, with_seen, with_lost, with_known, with_take, with_mark, with_no_hand, lower, upper, joined, nobody}
+use Rattle.tile_table.specs.Views.{opening_view, claiming, marking, with_claim, with_seen, with_lost, with_known, with_take, with_mark, with_no_hand, lower, upper, joined_views, nobody}
 use Rattle.tile_table.specs.Shows.{Table, Knows, claim_of, lock_of, mark_of}
 
 -- whom a word names, where the numbers below n name nobody
@@ -110,7 +110,7 @@ module _ {T : Type 0} where
         → next_state (shown workers inside s) (Split v.first x) ≡ Ok (shown workers inside (with_views s (slice_set s.views k (lower x v) ++ upper x v ∷ [])))
     pub join :
         (k other : ℕ) (v w : View T) (inside : ℕ → Bool) → Knows s k v → Knows s other w → other ≢ k → v.first < v.end → w.first < w.end → w.first ≡ v.end → w.hand ≡ Empty
-        → next_state (shown workers inside s) (Join v.first w.first) ≡ Ok (shown workers inside (with_views s (slice_set (slice_set s.views k (joined v w)) other nobody)))
+        → next_state (shown workers inside s) (Join v.first w.first) ≡ Ok (shown workers inside (with_views s (slice_set (slice_set s.views k (joined_views v w)) other nobody)))
 
   -- a table that was just made shows the machine's first state
   abbrev pub BeginsAsMachine : List T → List T → ℕ → Type 0

@@ -6,7 +6,7 @@ use Rattle.atomic_table.specs.Table.{State}
 use Rattle.tile_machine.specs.At.{At}
 use Rattle.tile_table.specs.declared.view.View.{View}
 use Rattle.tile_table.specs.declared.view.Hand.TheVariants.{Holds}
-use Rattle.tile_table.specs.Counts.{bit, same, times_in, pairs_in, total}
+use Rattle.tile_table.specs.Counts.{bit, same_bit, times_in, pair_times, total}
 use Rattle.tile_table.specs.Views.{tiles_by, nobody, covering, claiming, taking, marking, holding}
 
 abbrev pub Table : Type 0 → Type 0
@@ -43,13 +43,13 @@ module _ {T : Type 0} where
 
   -- Part 2: a lock names a worker exactly where its seat holds that place
   pub record LocksHeld (s : Table T) : Type 0 where
-    pub holders : (w i : ℕ) → total (holding w i) s.views ≡ same (lock_of s i) (w + 2)
+    pub holders : (w i : ℕ) → total (holding w i) s.views ≡ same_bit (lock_of s i) (w + 2)
     -- a lock in hand was taken under the seat's own number
     pub taken : (k : ℕ) (v : View T) (j : ℕ) (marked : Bool) → Knows s k v → v.hand ≡ Holds j marked → 0 < taking v.first j v
 
   -- Part 3: a claim names a worker exactly where the claims of one seat have that pair, once
   abbrev pub ClaimedOnce : Table T → Type 0
-  ClaimedOnce s = (w i : ℕ) → total (claiming w i) s.views ≡ same (claim_of s i) (w + 1)
+  ClaimedOnce s = (w i : ℕ) → total (claiming w i) s.views ≡ same_bit (claim_of s i) (w + 1)
 
   -- Part 4: a mark is set exactly where some seat's marks have the place
   pub record MarksTrue (s : Table T) : Type 0 where
@@ -72,9 +72,9 @@ module _ {T : Type 0} where
   -- Part 6: what a seat read stays true
   pub record ReadsTrue (s : Table T) : Type 0 where
     pub known : (k : ℕ) (v : View T) (j : ℕ) → Knows s k v → 0 < times_in j v.known → mark_of s j ≡ 1
-    pub seen : (k : ℕ) (v : View T) (i by : ℕ) → Knows s k v → 0 < pairs_in i by v.seen → claim_of s i ≡ by + 1
+    pub seen : (k : ℕ) (v : View T) (i by : ℕ) → Knows s k v → 0 < pair_times i by v.seen → claim_of s i ≡ by + 1
     -- who was met as the holder of a lock did take it
-    pub lost : (k : ℕ) (v : View T) (j h : ℕ) → Knows s k v → 0 < pairs_in j h v.lost → 0 < total (taking h j) s.views
+    pub lost : (k : ℕ) (v : View T) (j h : ℕ) → Knows s k v → 0 < pair_times j h v.lost → 0 < total (taking h j) s.views
 
   pub record Shows (s : Table T) : Type 0 where
     pub world : List T

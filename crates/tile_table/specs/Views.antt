@@ -3,7 +3,7 @@ use Rattle.std.specs.Prelude.{ℕ, ◌<◌, ◌≤◌, Bool, true, false, ◌&&�
 use Rattle.tile_table.specs.declared.view.View.{View}
 use Rattle.tile_table.specs.declared.view.Hand.{Hand}
 use Rattle.tile_table.specs.declared.view.Hand.TheVariants.{Empty, Holds}
-use Rattle.tile_table.specs.Counts.{bit, times_in, pairs_in}
+use Rattle.tile_table.specs.Counts.{bit, times_in, pair_times}
 
 -- the finished tiles where marked, else the world's
 abbrev pub tiles_by : {T : Type 0} → Bool → List T → List T → List T
@@ -87,8 +87,8 @@ module _ {T : Type 0} where
       }
 
   -- the range of the next seat is added, and its six lists are appended
-  abbrev pub joined : View T → View T → View T
-  joined v w =
+  abbrev pub joined_views : View T → View T → View T
+  joined_views v w =
       record v {
         end = w.end;
         claims = v.claims ++ w.claims;
@@ -105,10 +105,10 @@ module _ {T : Type 0} where
 
   -- how often the view has this claim, this take, this mark
   abbrev pub claiming : ℕ → ℕ → View T → ℕ
-  claiming w i v = pairs_in w i v.claims
+  claiming w i v = pair_times w i v.claims
 
   abbrev pub taking : ℕ → ℕ → View T → ℕ
-  taking w i v = pairs_in w i v.takes
+  taking w i v = pair_times w i v.takes
 
   abbrev pub marking : ℕ → View T → ℕ
   marking i v = times_in i v.marks

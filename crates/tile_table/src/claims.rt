@@ -2,7 +2,7 @@
 
 ghost use Rattle.std.specs.Prelude.{◌≡◌, ℕ, ◌<◌, length};
 ghost use Rattle.tile_table.specs.declared.answer.Claim.{Claim};
-ghost use Rattle.tile_table.specs.Counts.{pairs_in};
+ghost use Rattle.tile_table.specs.Counts.{pair_times};
 ghost use Rattle.tile_table.specs.Seats.{view, seat_name, IsAt};
 ghost use Rattle.tile_table.specs.Calls.{Claimed};
 ghost use Rattle.tile_table.specs.Inner.Steps.{ClaimRead};
@@ -47,7 +47,7 @@ impl<P: Phase> TileTable<P> {
         requires place { i < length (view seat.old).world }
         ensures table { seat_name seat.new ≡ seat_name seat.old }
         ensures view { Claimed (view seat.old) i result (view seat.new) }
-        ensures mine { result ≡ Claim.Mine → 0 < pairs_in (view seat.new).first i (view seat.new).claims }
+        ensures mine { result ≡ Claim.Mine → 0 < pair_times (view seat.new).first i (view seat.new).claims }
     {
         let number = seat.number;
         let shared = &self.table.shared;
@@ -73,7 +73,7 @@ impl<P: Phase> TileTable<P> {
         requires place { i < length (view seat.old).world }
         ensures table { seat_name seat.new ≡ seat_name seat.old }
         ensures view { Claimed (view seat.old) i result (view seat.new) }
-        ensures mine { result ≡ Claim.Mine → 0 < pairs_in (view seat.new).first i (view seat.new).claims }
+        ensures mine { result ≡ Claim.Mine → 0 < pair_times (view seat.new).first i (view seat.new).claims }
     {
         match self.claimant(seat, i) {
             Some(by) => Claim::Taken { by },

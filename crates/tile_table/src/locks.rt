@@ -3,7 +3,7 @@
 ghost use Rattle.std.specs.Prelude.{◌≡◌, ℕ, ◌<◌, [], ◌∷◌, length, Some, None, IfOk, IfErr};
 ghost use Rattle.tile_machine.specs.At.{At};
 ghost use Rattle.tile_table.specs.declared.view.Hand.{Hand};
-ghost use Rattle.tile_table.specs.Counts.{bit, times_in, pairs_in};
+ghost use Rattle.tile_table.specs.Counts.{bit, times_in, pair_times};
 ghost use Rattle.tile_table.specs.Views.{with_no_hand, with_mark};
 ghost use Rattle.tile_table.specs.Seats.{view, table_name, seat_name, IsAt, turn_place, turn_tile, turn_marked, HasTurn};
 ghost use Rattle.tile_table.specs.Calls.{TurnHad, LockMissed, PartSeen, LookedAt};
@@ -97,7 +97,7 @@ impl<P: Phase> TileTable<P> {
         requires table { IsAt self.now seat.old }
         requires hand { (view seat.old).hand ≡ Hand.Empty }
         requires place { j < length (view seat.old).world }
-        requires claimed { 0 < pairs_in (view seat.old).first j (view seat.old).claims }
+        requires claimed { 0 < pair_times (view seat.old).first j (view seat.old).claims }
         ensures table { seat_name seat.new ≡ seat_name seat.old }
         ensures turn { IfOk result (λ turn. TurnHad (view seat.old) j turn (view seat.new)) }
         ensures busy { IfErr result (λ busy. LockMissed (view seat.old) j busy.holder (view seat.new)) }
@@ -158,7 +158,7 @@ impl<P: Phase> TileTable<P> {
     pub fn finish(&self, seat: &mut Seat<P>, turn: Turn<P>, tile: P::Tile) -> P::Tile
         requires table { IsAt self.now seat.old }
         requires turn { HasTurn (view seat.old) turn }
-        requires claimed { 0 < pairs_in (view seat.old).first (turn_place turn) (view seat.old).claims }
+        requires claimed { 0 < pair_times (view seat.old).first (turn_place turn) (view seat.old).claims }
         requires unmarked { times_in (turn_place turn) (view seat.old).marks ≡ 0 }
         requires finished { At (view seat.old).goal (turn_place turn) tile }
         ensures table { seat_name seat.new ≡ seat_name seat.old }

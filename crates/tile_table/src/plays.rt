@@ -2,7 +2,7 @@
 
 ghost use Rattle.std.specs.Prelude.{ℕ, true, false};
 ghost use Rattle.tile_table.specs.Inner.Steps.{claim_seen, claimed, tried, marked, freed};
-ghost use Rattle.tile_table.specs.Views.{lower, upper, joined, nobody};
+ghost use Rattle.tile_table.specs.Views.{lower, upper, joined_views, nobody};
 
 use crate::view::View;
 use atomic_table::{Join, Play, Split};
@@ -74,7 +74,7 @@ impl<T, N: Number> Split<View<T>> for Cut<N> {
 pub struct Append;
 
 impl<T> Join<View<T>> for Append {
-    ghost both = { joined };
+    ghost both = { joined_views };
 
     ghost spent = { nobody };
 }

@@ -2,7 +2,7 @@
 
 ghost use Rattle.std.specs.Prelude.{◌≡◌, ℕ, ◌<◌};
 ghost use Rattle.tile_table.specs.declared.view.Hand.{Hand};
-ghost use Rattle.tile_table.specs.Views.{lower, upper, joined};
+ghost use Rattle.tile_table.specs.Views.{lower, upper, joined_views};
 ghost use Rattle.tile_table.specs.Seats.{view, seat_name, IsAt};
 
 use crate::plays::{Append, Cut, Number};
@@ -50,7 +50,7 @@ impl<P: Phase> TileTable<P> {
         requires next { (view other).first ≡ (view seat.old).end }
         requires hand { (view other).hand ≡ Hand.Empty }
         ensures table { seat_name seat.new ≡ seat_name seat.old }
-        ensures view { view seat.new ≡ joined (view seat.old) (view other) }
+        ensures view { view seat.new ≡ joined_views (view seat.old) (view other) }
     {
         let other = other.into_place();
         self.table.shared.join_seat::<Append>(&mut seat.seat, other);

@@ -2,7 +2,7 @@
 
 ghost use Rattle.std.specs.Prelude.{◌≡◌, ◌<◌, length};
 ghost use Rattle.tile_machine.specs.At.{At};
-ghost use Rattle.tile_table.specs.Counts.{times_in, pairs_in};
+ghost use Rattle.tile_table.specs.Counts.{times_in, pair_times};
 ghost use Rattle.tile_table.specs.declared.view.Hand.{Hand};
 ghost use Rattle.tile_table.specs.Seats.{view, seat_name, IsAt};
 
@@ -105,7 +105,7 @@ fn put<P: Phase>(table: &TileTable<P>, mut seat: Seat<P>, i: u64, tile: P::Tile)
     requires hand { (view seat).hand ≡ Hand.Empty }
     requires place { i < length (view seat).world }
     requires finished { At (view seat).goal i tile }
-    requires claimed { 0 < pairs_in (view seat).first i (view seat).claims }
+    requires claimed { 0 < pair_times (view seat).first i (view seat).claims }
     requires unmarked { times_in i (view seat).marks ≡ 0 }
     ensures table { seat_name result ≡ seat_name seat }
     ensures hand { (view result).hand ≡ Hand.Empty }

@@ -5,7 +5,7 @@ use Rattle.tile_table.specs.declared.view.View.{View}
 use Rattle.tile_table.specs.declared.view.Hand.TheVariants.{Empty}
 use Rattle.tile_table.specs.declared.seat.Seat.{Seat}
 use Rattle.tile_table.specs.declared.table.TileTable.{TileTable}
-use Rattle.tile_table.specs.Counts.{times_in, pairs_in}
+use Rattle.tile_table.specs.Counts.{times_in, pair_times}
 use Rattle.tile_table.specs.Seats.{view, seat_name, IsAt}
 use Rattle.tile_table.specs.Stays.{IsAlone, Unchanged, Loses, TookOne}
 use Rattle.tile_table.specs.declared.seat.Turn.{Turn}
@@ -25,7 +25,7 @@ module _ {X T Q : Type 0} where
     -- one of the tries was not in vain
     pub few : length after.lost < length before.lost + tries_in_a_row
     -- what the seat claimed under its own number and hasn't marked, nobody else marked
-    pub own_claim : 0 < pairs_in before.first j before.claims → times_in j before.marks ≡ 0 → turn_marked got ≡ false
+    pub own_claim : 0 < pair_times before.first j before.claims → times_in j before.marks ≡ 0 → turn_marked got ≡ false
 
 module _ {X T Q : Type 0} {g : Ghosts X T Q} where
   -- a seat of this table that holds no lock, for a phase that fits its world and whose finished tiles are its goal
@@ -48,7 +48,7 @@ module _ {X T Q : Type 0} {g : Ghosts X T Q} where
 module _ {T : Type 0} where
   -- the seat has the claim of the place, or met another's
   abbrev pub Visited : View T → ℕ → Type 0
-  Visited v i = ((by : ℕ) × (0 < pairs_in by i v.claims)) ⊎ ((by : ℕ) × (0 < pairs_in i by v.seen))
+  Visited v i = ((by : ℕ) × (0 < pair_times by i v.claims)) ⊎ ((by : ℕ) × (0 < pair_times i by v.seen))
 
   -- what became of a tile that the seat had claimed: it was finished, or it was put off since tries were lost
   abbrev pub Ended : Bool → View T → ℕ → View T → Type 0
@@ -59,7 +59,7 @@ module _ {T : Type 0} where
   pub record ClaimedNow (before : View T) (i : ℕ) (after : View T) : Type 0 where
     pub claims : after.claims ≡ before.claims ++ (before.first, i) ∷ []
     pub seen : after.seen ≡ before.seen
-    pub unclaimed : (by : ℕ) → pairs_in by i before.claims ≡ 0
+    pub unclaimed : (by : ℕ) → pair_times by i before.claims ≡ 0
     pub unmarked : times_in i before.marks ≡ 0
 
   -- what a worker did at a place
@@ -76,12 +76,12 @@ module _ {T : Type 0} where
 
   -- each tile that was claimed is finished
   abbrev pub FinishesClaims : View T → Type 0
-  FinishesClaims v = (by i : ℕ) → 0 < pairs_in by i v.claims → 0 < times_in i v.marks
+  FinishesClaims v = (by i : ℕ) → 0 < pair_times by i v.claims → 0 < times_in i v.marks
 
   -- places that the seat has claimed and not finished, each of them once
   abbrev pub Waiting : View T → List ℕ → Type 0
   Waiting v places =
-      (i : ℕ) → 0 < times_in i places → (i < length v.world) × (0 < pairs_in v.first i v.claims) × (times_in i v.marks + times_in i places ≡ 1)
+      (i : ℕ) → 0 < times_in i places → (i < length v.world) × (0 < pair_times v.first i v.claims) × (times_in i v.marks + times_in i places ≡ 1)
 
   -- the claims are the same, and those of others that were met. The marks may be more
   pub record Finishes (before after : View T) : Type 0 where

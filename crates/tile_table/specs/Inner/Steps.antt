@@ -3,7 +3,7 @@ use Rattle.std.specs.Prelude.{◌≡◌, ℕ, zero, suc, ◌+◌, ◌*◌, ◌<�
 use Rattle.atomic_table.specs.Table.{Me}
 use Rattle.tile_machine.specs.At.{At}
 use Rattle.tile_table.specs.declared.view.View.{View}
-use Rattle.tile_table.specs.Counts.{times_in, pairs_in}
+use Rattle.tile_table.specs.Counts.{times_in, pair_times}
 use Rattle.tile_table.specs.Views.{tiles_by, with_claim, with_seen, with_take, with_known, with_lost, with_mark, with_no_hand, IsAnother}
 
 -- a seat: its view, and the slots that are out with it
@@ -27,7 +27,7 @@ module _ {T : Type 0} where
 
   -- at no claim the seat has claimed the place, which it neither claimed nor marked before; else it saw who has
   abbrev pub claim_told : ℕ → Sat T → ℕ → Sat T → Type 0
-  claim_told i m zero r = (r ≡ (with_claim m.0 i, m.1)) × (times_in i m.0.marks ≡ 0) × ((by : ℕ) → pairs_in by i m.0.claims ≡ 0)
+  claim_told i m zero r = (r ≡ (with_claim m.0 i, m.1)) × (times_in i m.0.marks ≡ 0) × ((by : ℕ) → pair_times by i m.0.claims ≡ 0)
   claim_told i m (suc by) r = r ≡ (with_seen m.0 i by, m.1)
 
   -- the exchange on the claim word of a place
@@ -42,7 +42,7 @@ module _ {T : Type 0} where
     -- a mark of its own is seen again
     pub own_mark : 0 < times_in j m.0.marks → marked ≡ true
     -- and nobody else marks what it has claimed
-    pub own_claim : 0 < pairs_in m.0.first j m.0.claims → times_in j m.0.marks ≡ 0 → marked ≡ false
+    pub own_claim : 0 < pair_times m.0.first j m.0.claims → times_in j m.0.marks ≡ 0 → marked ≡ false
 
   -- another worker held the lock
   abbrev pub LostTo : Sat T → ℕ → ℕ → Sat T → Type 0
