@@ -8,6 +8,7 @@ mod Noted
 mod TextLaws
 mod InfoLaws
 mod StartLaws
+mod RowLaws
 mod Failing
 mod EntryFailing
 mod PaddingFailing

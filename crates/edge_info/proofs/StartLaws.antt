@@ -1,16 +1,17 @@
--- Where entries start, and binary search among offsets that rise.
-use Rattle.std.proofs.Common.{◌≡◌, ℕ, zero, suc, ◌+◌, ◌*◌, ◌<◌, ◌≤◌, Bool, true, false, eqb, ◌||◌, List, [], ◌∷◌, ◌++◌, length, take, get_or, Result, Ok, Err, refl, sym, ap, ◌∙◌, arith, inl, inr}
-use Rattle.std.specs.Prelude.{MatchResult, is_ok}
+-- Where entries start, and their marks.
+use Rattle.std.proofs.Common.{◌≡◌, ℕ, zero, suc, ◌+◌, ◌*◌, ◌/◌, ◌%◌, ◌<◌, ◌≤◌, Bool, true, false, cond, eqb, ltb, ◌&&◌, ◌||◌, List, [], ◌∷◌, ◌++◌, length, take, get_or, set, replicate, refl, sym, ap, ◌∙◌, arith, inl, inr}
+use Rattle.std.proofs.Common.{get_or-set_same, get_or-set_other}
 use Rattle.std.specs.List.{flat_map}
 use Rattle.std.specs.Int.{w32, w64, cast_unsigned}
-use Rattle.std.proofs.lemmas.Bool.{eq-eqb, ne_eqb, cases_lt}
-use Rattle.std.proofs.lemmas.List.{length-append}
+use Rattle.std.proofs.lemmas.Bool.{eq-eqb, ne_eqb, cases_eq, lt-ltb}
+use Rattle.std.proofs.lemmas.List.{length-append, length-set}
 use Rattle.std.proofs.lemmas.List.Concat.{flat_map-cons}
 use Rattle.fixed_geo.specs.declared.points.Point.{Point}
 use Rattle.section_grammar.specs.WordBytes.{word_bytes, half_bytes}
 use Rattle.section_grammar.proofs.WordLaws.{word_length, half_length, halves_bytes-length}
 use Rattle.edge_info.specs.declared.infos.Info.{Info}
 use Rattle.edge_info.specs.Entries.{key_bytes, point_bytes, info_bytes, infos_bytes, starts_from, starts_of, starts_at}
+use Rattle.edge_info.specs.Starts.{is_marked, MarkStarts, with_mark}
 
 point_length : (p : Point) → length (point_bytes p) ≡ 8
 unfolding point_bytes
@@ -47,7 +48,7 @@ info_length info =
       halves_bytes-length info.texts,
     )
 
-infos_cons : (x : Info) (xs : List Info) → length (infos_bytes (x ∷ xs)) ≡ length (info_bytes x) + length (infos_bytes xs)
+pub infos_cons : (x : Info) (xs : List Info) → length (infos_bytes (x ∷ xs)) ≡ length (info_bytes x) + length (infos_bytes xs)
 infos_cons x xs = ap length (flat_map-cons info_bytes x xs) ∙ length-append (info_bytes x) (infos_bytes xs)
 
 -- one entry more, of those that stand in a list
@@ -76,32 +77,76 @@ size_le infos zero = omega arith
 size_le [] (suc i) = omega arith
 size_le (y ∷ ys) (suc i) = let more = size_le ys i in omega (arith, infos_cons y (take i ys), infos_cons y ys, more)
 
-from_at : (at : ℕ) (infos : List Info) (i : ℕ) → i < length (starts_from at infos) → at ≤ get_or (starts_from at infos) i 0
-from_at at [] i lt = absurd (omega arith)
-from_at at (x ∷ xs) zero lt = omega arith
-from_at at (x ∷ xs) (suc i) lt = let more = from_at (at + length (info_bytes x)) xs i (omega arith) in omega (arith, more)
+-- ---- marks
 
-pub starts_rise : (at : ℕ) (infos : List Info) (i j : ℕ) → i ≤ j → j < length (starts_from at infos) → get_or (starts_from at infos) i 0 ≤ get_or (starts_from at infos) j 0
-starts_rise at [] i j le lt = absurd (omega arith)
-starts_rise at (x ∷ xs) zero j le lt = from_at at (x ∷ xs) j lt
-starts_rise at (x ∷ xs) (suc i) zero le lt = absurd (omega arith)
-starts_rise at (x ∷ xs) (suc i) (suc j) le lt = starts_rise (at + length (info_bytes x)) xs i j (omega arith) (omega arith)
+or_false : (b : Bool) → (b || false) ≡ b
+or_false true = refl
+or_false false = refl
 
--- ---- binary search
+or_assoc : (a b d : Bool) → (a || (b || d)) ≡ ((a || b) || d)
+or_assoc true b d = refl
+or_assoc false b d = refl
+
+pub starts_at-push : (starts : List ℕ) (start at : ℕ) → starts_at (starts ++ start ∷ []) at ≡ (starts_at starts at || eqb at start)
+starts_at-push [] start at = or_false (eqb at start)
+starts_at-push (s ∷ ss) start at = ap (λ b. eqb at s || b) (starts_at-push ss start at) ∙ or_assoc (eqb at s) (starts_at ss at) (eqb at start)
+
+by_fours : (infos : List Info) → length (infos_bytes infos) % 4 ≡ 0
+by_fours [] = refl
+by_fours (x ∷ xs) = omega (arith, infos_cons x xs, info_length x, by_fours xs)
+
+pub part_by_fours : (infos : List Info) (i at : ℕ) → at ≡ length (infos_bytes (take i infos)) → at % 4 ≡ 0
+part_by_fours infos i at e = omega (arith, by_fours (take i infos), e)
+
+-- no mark is set
+none_marked : (count k : ℕ) → get_or (replicate count false) k false ≡ false
+none_marked zero k = refl
+none_marked (suc count) zero = refl
+none_marked (suc count) (suc k) = none_marked count k
+
+and_none : (b d : Bool) → ((b && d) && false) ≡ false
+and_none true true = refl
+and_none true false = refl
+and_none false d = refl
+
+pub marks_none : (count : ℕ) (marks : List Bool) → marks ≡ replicate count false → MarkStarts marks []
+marks_none count marks e = record {
+  each = λ at. sym (ap (λ b. (eqb (at % 4) 0 && ltb (at / 4) (length marks)) && b) (ap (λ m. get_or m (at / 4) false) e ∙ none_marked count (at / 4)) ∙ and_none (eqb (at % 4) 0) (ltb (at / 4) (length marks)));
+}
+
+pub length-with_mark : (marks : List Bool) (at : ℕ) → length (with_mark marks at) ≡ length marks
+unfolding with_mark
+length-with_mark marks at = elim (ltb (at / 4) (length marks)) as (λ b. length (cond b (set marks (at / 4) true) marks) ≡ length marks) [ true ↦ length-set marks (at / 4) true | false ↦ refl ]
+
+marked_here : (marks : List Bool) (start at : ℕ) → start / 4 < length marks → start % 4 ≡ 0 → at ≡ start → is_marked (with_mark marks start) at ≡ true
+unfolding with_mark
+marked_here marks start at lt by same =
+    let inside : at / 4 < length (set marks (start / 4) true) = omega (arith, same, lt, length-set marks (start / 4) true) in
+    let zero_rest : at % 4 ≡ 0 = omega (arith, same, by) in
+    let read : get_or (set marks (start / 4) true) (at / 4) false ≡ true = ap (λ k. get_or (set marks (start / 4) true) (k / 4) false) same ∙ get_or-set_same marks (start / 4) true false lt in
+    rw (lt-ltb _ _ lt, zero_rest, lt-ltb _ _ inside, read) refl
+
+marked_else : (marks : List Bool) (start at : ℕ) → start / 4 < length marks → start % 4 ≡ 0 → (at ≡ start → ⊥) → is_marked (with_mark marks start) at ≡ is_marked marks at
+unfolding with_mark
+marked_else marks start at lt by other =
+    let made : with_mark marks start ≡ set marks (start / 4) true = ap (λ b. cond b (set marks (start / 4) true) marks) (lt-ltb _ _ lt) in
+    ap (λ m. is_marked m at) made ∙ (elim (cases_eq (at % 4) 0) [
+      | inl four ↦ (
+          let away : at / 4 ≡ start / 4 → ⊥ = λ e. other (omega (arith, e, four, by)) in
+          ap (λ n. (eqb (at % 4) 0 && ltb (at / 4) n) && get_or (set marks (start / 4) true) (at / 4) false) (length-set marks (start / 4) true)
+          ∙ ap (λ b. (eqb (at % 4) 0 && ltb (at / 4) (length marks)) && b) (get_or-set_other marks (start / 4) (at / 4) true false away)
+          )
+      | inr odd ↦ rw (ne_eqb (at % 4) 0 odd) refl
+    ])
 
 or_true : (b : Bool) → (b || true) ≡ true
 or_true true = refl
 or_true false = refl
 
-at_true : (xs : List ℕ) (x i : ℕ) → i < length xs → get_or xs i 0 ≡ x → starts_at xs x ≡ true
-at_true [] x i lt e = absurd (omega arith)
-at_true (s ∷ ss) x zero lt e = ap (λ b. b || starts_at ss x) (eq-eqb x s (sym e))
-at_true (s ∷ ss) x (suc i) lt e = ap (λ b. eqb x s || b) (at_true ss x i (omega arith) e) ∙ or_true (eqb x s)
-
-at_false : (xs : List ℕ) (x : ℕ) → ((k : ℕ) → k < length xs → get_or xs k 0 ≡ x → ⊥) → starts_at xs x ≡ false
-at_false [] x h = refl
-at_false (s ∷ ss) x h = ap (λ b. b || starts_at ss x) (ne_eqb x s (λ e. h 0 (omega arith) (sym e))) ∙ at_false ss x (λ k lt e. h (suc k) (omega arith) e)
-
-pub answered : (xs : List ℕ) (x : ℕ) (r : Result ℕ ℕ) → MatchResult r (λ i. (i < length xs) × (get_or xs i 0 ≡ x)) (λ i. (i ≤ length xs) × ((k : ℕ) → k < i → get_or xs k 0 < x) × ((k : ℕ) → i ≤ k → k < length xs → x < get_or xs k 0)) → {b : Bool} → b ≡ is_ok r → b ≡ starts_at xs x
-answered xs x (Ok i) m e = e ∙ sym (at_true xs x i m.0 m.1)
-answered xs x (Err i) m e = e ∙ sym (at_false xs x (λ k lt same. elim (cases_lt k i) [ inl below ↦ omega (arith, m.1 k below) | inr over ↦ omega (arith, m.2 k over lt) ]))
+pub marks_step : (marks : List Bool) (starts : List ℕ) (start : ℕ) → start / 4 < length marks → start % 4 ≡ 0 → MarkStarts marks starts → MarkStarts (with_mark marks start) (starts ++ start ∷ [])
+marks_step marks starts start lt by had = record {
+  each = λ at. starts_at-push starts start at ∙ (elim (cases_eq at start) [
+    | inl same ↦ ap (λ b. starts_at starts at || b) (eq-eqb at start same) ∙ (or_true (starts_at starts at) ∙ sym (marked_here marks start at lt by same))
+    | inr other ↦ ap (λ b. starts_at starts at || b) (ne_eqb at start other) ∙ (or_false (starts_at starts at) ∙ (had.each at ∙ sym (marked_else marks start at lt by other)))
+  ]);
+}

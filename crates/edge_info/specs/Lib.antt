@@ -1,3 +1,5 @@
+pub mod InfoRows
+pub mod Starts
 pub mod Entries
 pub mod EntryReading
 pub mod EntryLoops

@@ -10,9 +10,9 @@ ghost use Rattle.edge_info.specs.Entries.{comes_before, key_rises};
 ghost use Rattle.edge_info.specs.EntryReading.{bad_entry, key_in, key_at, point_in, point_at, name_at, counted_at, entry_at, entries_at, is_place};
 ghost use Rattle.edge_info.specs.EntryLoops.{rises_after};
 
-use crate::infos::{Info, Infos};
-use fixed_geo::{Point, Shape};
-use osm_model::{PieceKey, Seq};
+use crate::infos::Infos;
+use fixed_geo::Point;
+use osm_model::PieceKey;
 use section_grammar::{SectionFault, half, place, word};
 use std::alloc::Global;
 
@@ -109,29 +109,29 @@ fn point_of(at: u64, rest: &[u8]) -> Result<(Point, &[u8]), SectionFault>
     Ok((point, rest))
 }
 
-/// So many places.
-fn points_of(
-    alloc: Global,
+/// Fills a list with so many places.
+fn points_of<'a>(
     at: u64,
     count: u32,
-    rest: &[u8],
-) -> Result<(Vec<Point>, &[u8]), SectionFault>
-    ensures { Gives (λ x. (x.0.items, x.1.now)) result (read_many (point_at (Check 13 at)) count [] rest.now) }
+    points: &mut Vec<Point>,
+    rest: &'a [u8],
+) -> Result<&'a [u8], SectionFault>
+    ensures { Gives (λ r. (points.new.items, r.now)) result (read_many (point_at (Check 13 at)) count [] rest.now) }
 {
-    let mut points = Vec::with_capacity(alloc, (count as usize).min(rest.len() / 8))?;
+    points.clear();
     let mut rest = rest;
     for _ in 0..count {
         let (point, after) = point_of(at, rest)?;
         points.push(point)?;
         rest = after;
     }
-    Ok((points, rest))
+    Ok(rest)
 }
 
-/// The course at the front: how many places, two or more, and the places.
+/// The course at the front, put in place of the points: how many places, two or more, and the places.
 #[tactic(auto, unfolding(crate::specs::EntryReading::counted_at))]
-fn shape_of(alloc: Global, at: u64, rest: &[u8]) -> Result<(Vec<Point>, &[u8]), SectionFault>
-    ensures { Gives (λ x. (x.0.items, x.1.now)) result (counted_at (Check 13 at) 2 (point_at (Check 13 at)) rest.now) }
+fn shape_of<'a>(at: u64, points: &mut Vec<Point>, rest: &'a [u8]) -> Result<&'a [u8], SectionFault>
+    ensures { Gives (λ r. (points.new.items, r.now)) result (counted_at (Check 13 at) 2 (point_at (Check 13 at)) rest.now) }
 {
     if rest.len() < 4 {
         return Err(bad(at));
@@ -141,7 +141,7 @@ fn shape_of(alloc: Global, at: u64, rest: &[u8]) -> Result<(Vec<Point>, &[u8]), 
         return Err(bad(at));
     }
     let (_, rest) = rest.split_at(4);
-    points_of(alloc, at, count, rest)
+    points_of(at, count, points, rest)
 }
 
 /// The name at the front: the place of one of so many texts.
@@ -160,73 +160,63 @@ fn name_of(at: u64, texts: u64, rest: &[u8]) -> Result<(u32, &[u8]), SectionFaul
     Ok((name, rest))
 }
 
-/// So many names.
-fn names_of(
-    alloc: Global,
+/// Fills a list with so many names.
+fn names_of<'a>(
     at: u64,
     texts: u64,
     count: u32,
-    rest: &[u8],
-) -> Result<(Vec<u32>, &[u8]), SectionFault>
-    ensures { Gives (λ x. (x.0.items, x.1.now)) result (read_many (name_at (Check 13 at) texts) count [] rest.now) }
+    names: &mut Vec<u32>,
+    rest: &'a [u8],
+) -> Result<&'a [u8], SectionFault>
+    ensures { Gives (λ r. (names.new.items, r.now)) result (read_many (name_at (Check 13 at) texts) count [] rest.now) }
 {
-    let mut names = Vec::with_capacity(alloc, (count as usize).min(rest.len() / 4))?;
+    names.clear();
     let mut rest = rest;
     for _ in 0..count {
         let (name, after) = name_of(at, texts, rest)?;
         names.push(name)?;
         rest = after;
     }
-    Ok((names, rest))
+    Ok(rest)
 }
 
-/// The names at the front: how many, and the places of their texts.
+/// The names at the front, put in place of the names: how many, and the places of their texts.
 #[tactic(auto, unfolding(crate::specs::EntryReading::counted_at))]
-fn all_names(
-    alloc: Global,
+fn all_names<'a>(
     at: u64,
     texts: u64,
-    rest: &[u8],
-) -> Result<(Vec<u32>, &[u8]), SectionFault>
-    ensures { Gives (λ x. (x.0.items, x.1.now)) result (counted_at (Check 13 at) 0 (name_at (Check 13 at) texts) rest.now) }
+    names: &mut Vec<u32>,
+    rest: &'a [u8],
+) -> Result<&'a [u8], SectionFault>
+    ensures { Gives (λ r. (names.new.items, r.now)) result (counted_at (Check 13 at) 0 (name_at (Check 13 at) texts) rest.now) }
 {
     if rest.len() < 4 {
         return Err(bad(at));
     }
     let count = half(rest);
     let (_, rest) = rest.split_at(4);
-    names_of(alloc, at, texts, count, rest)
+    names_of(at, texts, count, names, rest)
 }
 
-/// The entry at the front, behind entries with this last key, in a section that ends at `end`.
+/// The entry at the front, behind entries with this last key, in a section that ends at `end`: its key is answered, and
+/// its points and names are put in place of the others.
 #[tactic(auto, unfolding(crate::specs::EntryReading::entry_at))]
-fn entry_of(
-    alloc: Global,
+fn entry_of<'a>(
     end: u64,
     texts: u64,
     last: Option<PieceKey>,
-    rest: &[u8],
-) -> Result<(Info, &[u8]), SectionFault>
+    points: &mut Vec<Point>,
+    names: &mut Vec<u32>,
+    rest: &'a [u8],
+) -> Result<(PieceKey, &'a [u8]), SectionFault>
     ensures { (before : List Info) → ((key : PieceKey) → key_rises before key ≡ rises_after last key)
-        → Gives (λ x. (x.0, x.1.now)) result (entry_at end texts before rest.now) }
+        → Gives (λ x. (record { key = x.0; shape = points.new.items; texts = names.new.items }, x.1.now)) result (entry_at end texts before rest.now) }
 {
     let at = place(end, rest);
     let (key, rest) = key_of(at, last, rest)?;
-    let (points, rest) = shape_of(alloc, at, rest)?;
-    let (names, rest) = all_names(alloc, at, texts, rest)?;
-    let info = Info {
-        key,
-        shape: Shape::from_vec(points),
-        texts: Seq::from_vec(names),
-    };
-    Ok((info, rest))
-}
-
-/// The key of an entry.
-fn key_of_entry(info: &Info) -> PieceKey
-    ensures { result ≡ info.now.key }
-{
-    info.key
+    let rest = shape_of(at, points, rest)?;
+    let rest = all_names(at, texts, names, rest)?;
+    Ok((key, rest))
 }
 
 /// The entries that fill a section which ends at the offset `end` and before which so many texts are said to follow, or
@@ -240,14 +230,16 @@ pub fn read_entries(
 ) -> Result<Infos, SectionFault>
     ensures { Gives (λ x. x) result (entries_at end texts section.now) }
 {
-    let mut infos = Vec::new(alloc);
+    let mut infos = Infos::new(alloc);
+    let mut points = Vec::new(alloc);
+    let mut names = Vec::new(alloc);
     let mut last: Option<PieceKey> = None;
     let mut rest = section;
     while !rest.is_empty() {
-        let (info, after) = entry_of(alloc, end, texts, last, rest)?;
-        last = Some(key_of_entry(&info));
-        infos.push(info)?;
+        let (key, after) = entry_of(end, texts, last, &mut points, &mut names, rest)?;
+        infos.push_parts(key, &points, &names)?;
+        last = Some(key);
         rest = after;
     }
-    Ok(Seq::from_vec(infos))
+    Ok(infos)
 }

@@ -1,10 +1,10 @@
 //! What is read was written so, and what was written is read again.
-ghost use Rattle.std.specs.Prelude.{◌≡◌, ◌+◌, ◌-◌, ◌<◌, ◌≤◌, ◌^◌, ℕ, List, Ok, Err, length, All, replicate, slice_index};
+ghost use Rattle.std.specs.Prelude.{◌≡◌, ◌+◌, ◌-◌, ◌<◌, ◌≤◌, ◌^◌, ℕ, List, Ok, Err, length, All, replicate};
 ghost use Rattle.section_grammar.specs.WordBytes.{IsByteList};
 ghost use Rattle.section_grammar.specs.Answers.{FailedCheck, Check};
 ghost use Rattle.edge_info.specs.declared.infos.Info.{Info};
 ghost use Rattle.edge_info.specs.Checks.{EntryFails, TextFails, PaddingFails};
-ghost use Rattle.edge_info.specs.Entries.{AreInfos, infos_bytes, IsSized, starts_of};
+ghost use Rattle.edge_info.specs.Entries.{AreInfos, infos_bytes, IsSized};
 ghost use Rattle.edge_info.specs.declared.infos.InfoSet.{InfoSet};
 ghost use Rattle.edge_info.specs.InfoSets.{gap, padding_at, info_set_at, SpellsInfos};
 ghost use Rattle.edge_info.specs.EntryReading.{entries_at};
@@ -66,9 +66,3 @@ pub fn infos_law()
     texts_law();
     padding_law();
 }
-
-/// The offsets at which entries start rise.
-pub fn starts_law()
-    ensures { (infos : List Info) (i j : ℕ) → i ≤ j → j < length (starts_of infos)
-        → slice_index (starts_of infos) i ≤ slice_index (starts_of infos) j }
-{}

@@ -15,8 +15,8 @@ mod texts;
 mod writes;
 
 pub use entries::read_entries;
-pub use infos::{Info, InfoFault, InfoSet, Infos, TextPlaces, Texts};
-pub use laws::{entries_law, infos_law, padding_law, starts_law, texts_law};
+pub use infos::{Info, InfoFault, InfoSet, InfoView, Infos, TextPlaces, Texts};
+pub use laws::{entries_law, infos_law, padding_law, texts_law};
 pub use padding::read_padding;
 pub use sets::{read_infos, write_infos};
 pub use starts::{entry_starts, is_start};

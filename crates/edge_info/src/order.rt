@@ -1,23 +1,10 @@
 //! The order in which entries name texts.
 ghost use Rattle.std.specs.Prelude.{◌≡◌, ◌<◌, ◌≤◌, ◌-◌, ◌^◌, nat_lt, ◌&&◌, if◌then◌else◌, replicate, length, IfOk};
 ghost use Rattle.std.specs.List.{list_all};
-ghost use Rattle.edge_info.specs.Entries.{names_of};
 ghost use Rattle.edge_info.specs.TextReading.{out_of_order};
 ghost use Rattle.edge_info.specs.TextLoops.{with_place, ArePlaces, IsFirstLate};
 
-use crate::infos::Info;
 use std::alloc::{AllocError, Global};
-
-/// The names of all entries, one after the other.
-pub(crate) fn all_names_of(alloc: Global, infos: &[Info]) -> Result<Vec<u32>, AllocError>
-    ensures { IfOk result (λ v. v.items ≡ names_of infos.now) }
-{
-    let mut names = Vec::new(alloc);
-    for info in infos {
-        names.extend_from_slice(info.texts.as_slice())?;
-    }
-    Ok(names)
-}
 
 /// Puts down that a name stands at a place, where there is such a text.
 #[tactic(auto, unfolding(crate::specs::TextLoops::with_place))]

@@ -34,7 +34,7 @@ fn spelled(alloc: Global, infos: &Infos, texts: &Texts) -> Result<Vec<u8>, Alloc
     ensures { IfOk result (λ bytes. bytes.items ≡ joined_bytes infos.now texts.now) }
 {
     let mut out = Vec::new(alloc);
-    push_infos(&mut out, infos.as_slice())?;
+    push_infos(&mut out, infos)?;
     push_texts(&mut out, texts.as_slice())?;
     let size = out.len();
     push_zeros(&mut out, (8 - size % 8) % 8)?;
@@ -56,13 +56,7 @@ fn parts(
     let (front, rest) = cut(bytes, info_bytes as usize);
     let infos = read_entries(alloc, info_bytes, text_count, front)?;
     let (front, rest) = cut(rest, text_bytes as usize);
-    let texts = read_texts(
-        alloc,
-        info_bytes + text_bytes,
-        text_count,
-        infos.as_slice(),
-        front,
-    )?;
+    let texts = read_texts(alloc, info_bytes + text_bytes, text_count, &infos, front)?;
     read_padding(bytes.len() as u64, rest)?;
     Ok(InfoSet { infos, texts })
 }

@@ -1,9 +1,12 @@
 //! Worked rows: the infos of a tile with one road, and bytes that are none. The bytes and the offsets are counted by
 //! hand.
 use crate::{
-    InfoFault, InfoSet, entries_law, entry_starts, infos_law, is_start, padding_law, read_infos,
-    starts_law, texts_law, write_infos,
+    Info, InfoFault, InfoSet, InfoView, Infos, entries_law, entry_starts, infos_law, is_start,
+    padding_law, read_infos, texts_law, write_infos,
 };
+use fixed_geo::{Point, Shape};
+use osm_model::{PieceKey, Seq};
+use std::alloc::{AllocError, Global};
 use std::test::Fail;
 
 /// The entry of way 10 with two points and no name: 40 bytes.
@@ -21,7 +24,8 @@ const NAMED: [u8; 72] = [
 ];
 
 /// One byte of `NAMED` changed: its offset, the new byte, and the check and the offset of the answer.
-const BROKEN: [(usize, u8, u8, u64); 14] = [
+const BROKEN: [(usize, u8, u8, u64); 15] = [
+    (16, 0, 13, 0),
     (16, 1, 13, 0),
     (16, 200, 13, 0),
     (23, 0x40, 13, 0),
@@ -67,13 +71,14 @@ fn place_of(answer: Result<InfoSet, InfoFault>) -> Option<(u8, u64)> {
 #[test]
 fn a_road(rt: HostRuntime) -> Result<(), Fail> {
     let set = read_infos(rt.alloc(), &ROAD, 40, 0, 0)?;
-    let info = set.infos.get(0).ok_or("no entry")?;
-    assert_eq!(rt; (info.key.way, info.key.run, info.key.piece), (10, 0, 0));
+    assert_eq!(rt; set.infos.len(), 1);
+    let info = first_entry(&set.infos).ok_or("no entry")?;
     assert_eq!(rt;
-        (info.shape.len(), info.texts.len(), set.infos.len()),
-        (2, 0, 1)
+        (info.key().way, info.key().run, info.key().piece),
+        (10, 0, 0)
     );
-    let end = info.shape.get(1).ok_or("no point")?;
+    assert_eq!(rt; (info.shape().len(), info.texts().len()), (2, 0));
+    let end = info.shape().get(1).ok_or("no point")?;
     assert_eq!(rt; (end.lat, end.lon), (0, 10_000));
     let bytes = write_infos(rt.alloc(), &set.infos, &set.texts)?;
     assert_eq!(rt; bytes.as_slice(), ROAD.as_slice());
@@ -83,9 +88,12 @@ fn a_road(rt: HostRuntime) -> Result<(), Fail> {
 #[test]
 fn names(rt: HostRuntime) -> Result<(), Fail> {
     let set = read_infos(rt.alloc(), &NAMED, 52, 13, 2)?;
-    let info = set.infos.get(0).ok_or("no entry")?;
-    assert_eq!(rt; (info.key.way, info.key.run, info.key.piece), (-1, 2, 3));
-    assert_eq!(rt; info.texts.as_slice(), [0, 1, 0].as_slice());
+    let info = first_entry(&set.infos).ok_or("no entry")?;
+    assert_eq!(rt;
+        (info.key().way, info.key().run, info.key().piece),
+        (-1, 2, 3)
+    );
+    assert_eq!(rt; info.texts(), [0, 1, 0].as_slice());
     let text = set.texts.get(1).ok_or("no text")?;
     assert_eq!(rt; text.as_str(), "B1");
     let bytes = write_infos(rt.alloc(), &set.infos, &set.texts)?;
@@ -134,6 +142,17 @@ fn texts_and_counts(rt: HostRuntime) {
 }
 
 #[test]
+fn shared_beginning(rt: HostRuntime) -> Result<(), Fail> {
+    let mut bytes = TWICE;
+    bytes[54] = 1;
+    bytes[59] = 0;
+    let set = read_infos(rt.alloc(), &bytes, 48, 11, 2)?;
+    let written = write_infos(rt.alloc(), &set.infos, &set.texts)?;
+    assert_eq!(rt; written.as_slice(), bytes.as_slice());
+    Ok(())
+}
+
+#[test]
 fn keys_rise(rt: HostRuntime) {
     let alloc = rt.alloc();
     let answers = [
@@ -148,10 +167,68 @@ fn keys_rise(rt: HostRuntime) {
 #[test]
 fn starts(rt: HostRuntime) -> Result<(), Fail> {
     let set = read_infos(rt.alloc(), &two_roads(11), 80, 0, 0)?;
-    starts_law();
-    let starts = entry_starts(rt.alloc(), set.infos.as_slice())?;
-    assert_eq!(rt; starts.as_slice(), [0, 40].as_slice());
-    let rows = [0, 20, 40];
-    assert_eq!(rt; rows.map(|at| is_start(&[0, 40], at)), [true, false, true]);
+    assert_eq!(rt; set.infos.size(), 80);
+    let marks = entry_starts(rt.alloc(), &set.infos, 80)?;
+    let rows = [0, 20, 38, 40, 42, 80, u32::MAX];
+    assert_eq!(rt;
+        rows.map(|at| is_start(&marks, at)),
+        [true, false, false, true, false, false, false]
+    );
+    Ok(())
+}
+
+/// The first entry.
+fn first_entry(infos: &Infos) -> Option<InfoView<'_>> {
+    if infos.is_empty() {
+        None
+    } else {
+        Some(infos.at(0))
+    }
+}
+
+/// A list of two entries, the second with a point and a name more than the road's.
+fn pushed(alloc: Global) -> Result<Infos, AllocError> {
+    let mut infos = Infos::new(alloc);
+    let key = PieceKey {
+        way: 7,
+        run: 0,
+        piece: 1,
+    };
+    let point = Point { lat: 1, lon: 2 };
+    infos.push_parts(key, &[point, point], &[])?;
+    let mut shape = Vec::new(alloc);
+    let mut texts = Vec::new(alloc);
+    for number in 0..3 {
+        shape.push(Point { lat: 5, lon: 6 })?;
+        texts.push(number)?;
+    }
+    let shape = Shape::from_vec(shape);
+    let texts = Seq::from_vec(texts);
+    let key = PieceKey {
+        way: 8,
+        run: 0,
+        piece: 0,
+    };
+    infos.push(&Info { key, shape, texts })?;
+    Ok(infos)
+}
+
+#[test]
+fn pushed_entries(rt: HostRuntime) -> Result<(), Fail> {
+    let infos = pushed(rt.alloc())?;
+    if infos.len() != 2 {
+        return Err("not two".into());
+    }
+    let (first, second) = (infos.at(0), infos.at(1));
+    assert_eq!(rt;
+        (first.key().way, first.shape().len(), first.texts().len()),
+        (7, 2, 0)
+    );
+    assert_eq!(rt; (second.key().way, second.shape().len()), (8, 3));
+    assert_eq!(rt;
+        (second.texts(), infos.names()),
+        ([0, 1, 2].as_slice(), [0, 1, 2].as_slice())
+    );
+    assert_eq!(rt; infos.size(), 24 + 16 + 24 + 24 + 12);
     Ok(())
 }

@@ -9,8 +9,8 @@ ghost use Rattle.edge_info.specs.Entries.{names_of};
 ghost use Rattle.edge_info.specs.TextReading.{has_text, text_in, after_text, texts_there, out_of_order, text_at, texts_at};
 ghost use Rattle.edge_info.specs.TextLoops.{IsFirstLate, HasSeen};
 
-use crate::infos::{Info, Texts};
-use crate::order::{all_names_of, are_named, first_late, first_places};
+use crate::infos::{Infos, Texts};
+use crate::order::{are_named, first_late, first_places};
 use osm_model::{Seq, TagText};
 use section_grammar::{SectionFault, half, place};
 use std::alloc::{AllocError, Global};
@@ -148,19 +148,19 @@ pub fn read_texts(
     alloc: Global,
     end: u64,
     count: u64,
-    infos: &[Info],
+    infos: &Infos,
     section: &[u8],
 ) -> Result<Texts, SectionFault>
     ensures { Gives (λ x. x) result (texts_at end (names_of infos.now) count section.now) }
 {
-    let names = all_names_of(alloc, infos)?;
-    let places = first_places(alloc, &names, count_there(count, section))?;
-    let late = first_late(&places, &names);
+    let names = infos.names();
+    let places = first_places(alloc, names, count_there(count, section))?;
+    let late = first_late(&places, names);
     let (texts, rest) = texts_of(alloc, end, count, late, section)?;
     if !rest.is_empty() {
         return Err(bad(place(end, rest)));
     }
-    if !are_named(&places, &names) {
+    if !are_named(&places, names) {
         return Err(bad(end));
     }
     Ok(Seq::from_vec(texts))

@@ -5,7 +5,7 @@ ghost use Rattle.edge_info.specs.Entries.{key_bytes, point_bytes, counted_bytes,
 ghost use Rattle.edge_info.specs.Texts.{text_bytes, texts_bytes};
 ghost use Rattle.std.specs.List.{flat_map};
 
-use crate::infos::Info;
+use crate::infos::{InfoView, Infos};
 use fixed_geo::Point;
 use osm_model::{PieceKey, TagText};
 use section_grammar::{push_half, push_word};
@@ -52,25 +52,25 @@ fn push_names(out: &mut Vec<u8>, names: &[u32]) -> Result<(), AllocError>
 
 /// Puts an entry behind the bytes.
 #[tactic(auto, unfolding(crate::specs::Entries::info_bytes))]
-fn push_info(out: &mut Vec<u8>, info: &Info) -> Result<(), AllocError>
+fn push_info(out: &mut Vec<u8>, info: &InfoView<'_>) -> Result<(), AllocError>
     requires few_points { length info.now.shape < 2 ^ 32 }
     requires few_names { length info.now.texts < 2 ^ 32 }
     ensures { OnOk result (out.new.items ≡ out.old.items ++ info_bytes info.now) }
 {
-    push_key(out, info.key)?;
-    push_half(out, info.shape.len() as u32)?;
-    push_points(out, info.shape.as_slice())?;
-    push_half(out, info.texts.len() as u32)?;
-    push_names(out, info.texts.as_slice())
+    push_key(out, info.key())?;
+    push_half(out, info.shape().len() as u32)?;
+    push_points(out, info.shape())?;
+    push_half(out, info.texts().len() as u32)?;
+    push_names(out, info.texts())
 }
 
 /// Puts entries behind the bytes.
-pub fn push_infos(out: &mut Vec<u8>, infos: &[Info]) -> Result<(), AllocError>
+pub fn push_infos(out: &mut Vec<u8>, infos: &Infos) -> Result<(), AllocError>
     requires { All IsSized infos.now }
     ensures { OnOk result (out.new.items ≡ out.old.items ++ infos_bytes infos.now) }
 {
-    for info in infos {
-        push_info(out, info)?;
+    for i in 0..infos.len() {
+        push_info(out, &infos.at(i))?;
     }
     Ok(())
 }

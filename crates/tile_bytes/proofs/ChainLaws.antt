@@ -12,14 +12,14 @@ use Rattle.section_grammar.proofs.Steps.{guard_ok}
 use Rattle.section_grammar.proofs.Sections.{section_of}
 use Rattle.tile_bytes.specs.declared.ids.LevelRule.TheVariants as rules
 use Rattle.tile_bytes.specs.Items.{id_at}
-use Rattle.tile_bytes.specs.Chains.{chain_bytes, IsChain, chain_at}
+use Rattle.tile_bytes.specs.Chains.{chain_bytes, IsTileChain, chain_at}
 use Rattle.tile_bytes.proofs.IdLaws.{ids_section}
 
 or_false : (x y : Bool) → (x || y) ≡ false → (x ≡ false) × (y ≡ false)
 or_false true y e = absurd cc
 or_false false y e = (refl, e)
 
-chain_takes : (level end : ℕ) (before : List (List ℕ)) (rest : List ℕ) (x : List ℕ) (after : List ℕ) → IsByteList rest → chain_at level end before rest ≡ Ok (x, after) → IsChain level before x × (rest ≡ chain_bytes x ++ after)
+chain_takes : (level end : ℕ) (before : List (List ℕ)) (rest : List ℕ) (x : List ℕ) (after : List ℕ) → IsByteList rest → chain_at level end before rest ≡ Ok (x, after) → IsTileChain level before x × (rest ≡ chain_bytes x ++ after)
 unfolding chain_at chain_bytes
 chain_takes level end before rest x after fits e =
     let bad = Check 11 (place_of end rest) in
@@ -38,7 +38,7 @@ chain_takes level end before rest x after fits e =
       sym (word_takes rest fits long) ∙ ap (λ k. word_bytes k ++ drop 8 rest) (sym n) ∙ ap (λ l. word_bytes (length x) ++ l) found.1 ∙ sym (append_assoc (word_bytes (length x)) (words_bytes x) after),
     )
 
-chain_again : (level end : ℕ) (before : List (List ℕ)) (x : List ℕ) (rest : List ℕ) → IsChain level before x → chain_at level end before (chain_bytes x ++ rest) ≡ Ok (x, rest)
+chain_again : (level end : ℕ) (before : List (List ℕ)) (x : List ℕ) (rest : List ℕ) → IsTileChain level before x → chain_at level end before (chain_bytes x ++ rest) ≡ Ok (x, rest)
 unfolding chain_at chain_bytes
 chain_again level end before x rest is =
     let n = length x in
@@ -54,5 +54,5 @@ chain_again level end before x rest is =
     let ids = (ids_section (rules.Only level) 11 end).spelled x rest is.fits_so.each in
     ap (chain_at level end before) regrouped ∙ rw (long, w, left, few, room) ids
 
-pub chains_section : (level end : ℕ) → IsSection (chain_at level end) chain_bytes (IsChain level)
-chains_section level end = section_of (chain_at level end) chain_bytes (IsChain level) (record { takes = chain_takes level end; again = chain_again level end })
+pub chains_section : (level end : ℕ) → IsSection (chain_at level end) chain_bytes (IsTileChain level)
+chains_section level end = section_of (chain_at level end) chain_bytes (IsTileChain level) (record { takes = chain_takes level end; again = chain_again level end })

@@ -10,9 +10,10 @@ use Rattle.section_grammar.specs.WordBytes.{IsByteList, words_in, words_bytes}
 use Rattle.section_grammar.specs.Answers.{FailedCheck, Check}
 use Rattle.section_grammar.proofs.WordLaws.{words_take, words_below, words_again, words_bytes-length}
 use Rattle.section_grammar.proofs.Steps.{guard_ok, ok_is}
-use Rattle.tile_bytes.specs.declared.header.TheConstants.{SIGNATURE, MOST_RECORDS, MODES}
+use Rattle.tile_bytes.specs.declared.header.TheConstants.{SIGNATURE, MOST_RECORDS}
+use Rattle.way_tags.specs.declared.modes.TheConstants.{ALL}
 use Rattle.tile_bytes.specs.declared.header.Header.{Header}
-use Rattle.tile_bytes.specs.Header.{file_size, header_of, corner_word, header_words, names_tile, are_modes, tested, header_tests, header_at, IsHeader}
+use Rattle.tile_bytes.specs.Header.{file_size, header_of, corner_word, header_words, names_tile, are_modes, tested, header_tests, header_at, IsTileHeader}
 
 abbrev AllPass : List (Bool × FailedCheck) → Type 0
 AllPass [] = Unit {0}
@@ -50,13 +51,13 @@ low_fits : (w : ℕ) → w % 2 ^ 32 < 2 ^ 32
 low_fits w = omega arith
 
 pub record HeaderTook (bytes : List ℕ) (h : Header) (rest : List ℕ) : Type 0 where
-  pub good : IsHeader h
+  pub good : IsTileHeader h
   pub size : file_size h ≡ length bytes
   pub spelled_so : bytes ≡ words_bytes (header_words h) ++ rest
   pub left : length rest + 64 ≡ file_size h
 
 -- words that pass are those of the header that they say
-words_are : (size : ℕ) (ws : List ℕ) → ((i : ℕ) → get_or ws i 0 < 2 ^ 64) → AllPass (header_tests size ws) → IsHeader (header_of ws) × (file_size (header_of ws) ≡ size)
+words_are : (size : ℕ) (ws : List ℕ) → ((i : ℕ) → get_or ws i 0 < 2 ^ 64) → AllPass (header_tests size ws) → IsTileHeader (header_of ws) × (file_size (header_of ws) ≡ size)
     × ((get_or ws 0 0 ∷ get_or ws 1 0 ∷ get_or ws 2 0 ∷ get_or ws 3 0 ∷ get_or ws 4 0 ∷ get_or ws 5 0 ∷ get_or ws 6 0 ∷ get_or ws 7 0 ∷ []) ≡ header_words (header_of ws))
 unfolding header_words
 words_are size ws below pass =
@@ -109,13 +110,13 @@ id_below id e =
 pub modes_below : (modes : ℕ) → are_modes modes ≡ true → modes ≤ 79
 modes_below modes e =
     let a = and_parts _ _ e in
-    let within : bit_and modes MODES ≡ modes = eqb-true _ _ a.1 in
-    subst (λ (n : ℕ). n ≤ 79) within (and_le_r modes MODES)
+    let within : bit_and modes ALL ≡ modes = eqb-true _ _ a.1 in
+    subst (λ (n : ℕ). n ≤ 79) within (and_le_r modes ALL)
 
 gap_below : (n : ℕ) → gap n < 8
 gap_below n = omega arith
 
-size_below : (h : Header) → IsHeader h → file_size h < 2 ^ 40
+size_below : (h : Header) → IsTileHeader h → file_size h < 2 ^ 40
 size_below h good =
     let g = gap_below (h.info_bytes + h.text_bytes) in
     omega (arith, g, good.few_nodes, good.few_edges, good.few_transitions, good.chain_words, good.sequence_words, good.info_bytes, good.text_bytes)
@@ -164,7 +165,7 @@ top_of s m lt = omega arith
 rest_of : (s m : ℕ) → s < 2 ^ 40 → (s + 2 ^ 48 * m) % 2 ^ 48 ≡ s
 rest_of s m lt = omega arith
 
-header_back : (h : Header) → IsHeader h → header_of (header_words h) ≡ h
+header_back : (h : Header) → IsTileHeader h → header_of (header_words h) ≡ h
 unfolding header_words
 header_back h good =
     let n : h.nodes < 2 ^ 32 = (let p = good.few_nodes in omega arith) in
@@ -180,7 +181,7 @@ first_words : (h : Header) → (get_or (header_words h) 0 0 ≡ SIGNATURE) × (g
 unfolding header_words
 first_words h = (refl, refl, refl)
 
-tests_pass : (size : ℕ) (ws : List ℕ) (h : Header) → header_of ws ≡ h → get_or ws 0 0 ≡ SIGNATURE → get_or ws 1 0 ≡ h.id → get_or ws 2 0 ≡ corner_word h.id → get_or ws 7 0 ≡ file_size h + 2 ^ 48 * h.modes → IsHeader h → file_size h ≡ size → AllPass (header_tests size ws)
+tests_pass : (size : ℕ) (ws : List ℕ) (h : Header) → header_of ws ≡ h → get_or ws 0 0 ≡ SIGNATURE → get_or ws 1 0 ≡ h.id → get_or ws 2 0 ≡ corner_word h.id → get_or ws 7 0 ≡ file_size h + 2 ^ 48 * h.modes → IsTileHeader h → file_size h ≡ size → AllPass (header_tests size ws)
 tests_pass size ws h is w0 w1 w2 w7 good whole =
     let small = size_below h good in (
       eq-eqb _ _ w0,
@@ -203,7 +204,7 @@ tests_pass size ws h is w0 w1 w2 w7 good whole =
       ),
     )
 
-header_all_below : (h : Header) → IsHeader h → corner_word h.id < 2 ^ 64 → (i : ℕ) → get_or (header_words h) i 0 < 2 ^ 64
+header_all_below : (h : Header) → IsTileHeader h → corner_word h.id < 2 ^ 64 → (i : ℕ) → get_or (header_words h) i 0 < 2 ^ 64
 unfolding header_words
 header_all_below h good corner =
     let id = id_below h.id good.tile in
@@ -233,7 +234,7 @@ unfolding header_at
 read_again bytes ws h rest size words len left long pass is =
     ap (λ n. header_from n (words_in 8 bytes) (drop 64 bytes)) len ∙ ap (λ l. header_from size l (drop 64 bytes)) words ∙ ap (λ l. header_from size ws l) left ∙ from_passes size ws rest h long pass is
 
-pub header_again : (h : Header) (rest : List ℕ) → IsHeader h → corner_word h.id < 2 ^ 64 → length rest + 64 ≡ file_size h → header_at (words_bytes (header_words h) ++ rest) ≡ Ok (h, rest)
+pub header_again : (h : Header) (rest : List ℕ) → IsTileHeader h → corner_word h.id < 2 ^ 64 → length rest + 64 ≡ file_size h → header_at (words_bytes (header_words h) ++ rest) ≡ Ok (h, rest)
 header_again h rest good corner size =
     let ws = header_words h in
     let bytes = words_bytes ws ++ rest in

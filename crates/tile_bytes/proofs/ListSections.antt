@@ -14,8 +14,8 @@ use Rattle.section_grammar.proofs.WordLaws.{word_length, words_bytes-length}
 use Rattle.section_grammar.proofs.Steps.{bind_ok, passed_ok, ok_is}
 use Rattle.tile_bytes.specs.declared.header.Header.{Header}
 use Rattle.tile_bytes.specs.declared.sequences.Sequence.{Sequence}
-use Rattle.tile_bytes.specs.Chains.{chain_bytes, words_of_chains, IsChain, chain_at, chains_at, named_chains, chain_offsets, offsets_at}
-use Rattle.tile_bytes.specs.Sequences.{sequence_bytes, words_of_sequences, IsSequence, sequences_at}
+use Rattle.tile_bytes.specs.Chains.{chain_bytes, words_of_chains, IsTileChain, chain_at, chains_at, named_chains, chain_offsets, offsets_at}
+use Rattle.tile_bytes.specs.Sequences.{sequence_bytes, words_of_sequences, IsTileSequence, sequences_at}
 use Rattle.tile_bytes.specs.TileSections.{section_of_words, behind_words, chains_in_place}
 use Rattle.tile_bytes.specs.TileReading.{TileLists, with_sequences, lists_at}
 use Rattle.tile_bytes.proofs.ChainLaws.{chains_section}
@@ -75,7 +75,7 @@ offsets_again at (e ∷ es) = again_step at e es e.shortcut (offsets_again (at +
 -- ---- the sections
 
 chains_take : (level end count : ℕ) (rest : List ℕ) (chains : List (List ℕ)) → IsByteList rest → chains_at level end count rest ≡ Ok chains
-    → AllGood (IsChain level) [] chains × (rest ≡ flat_map chain_bytes chains) × (length chains ≡ count)
+    → AllGood (IsTileChain level) [] chains × (rest ≡ flat_map chain_bytes chains) × (length chains ≡ count)
 unfolding chains_at
 chains_take level end count rest chains fits e =
     let a = bind_ok (read_many (chain_at level end) count [] rest) (λ x. ended 11 end x.0 x.1) chains e in
@@ -83,9 +83,9 @@ chains_take level end count rest chains fits e =
     let found = (chains_section level end).found count rest a.0.0 a.0.1 fits a.1 in
     let none : a.0.1 ≡ [] = nil_from_length a.0.1 (eqb-true _ _ g.0) in
     let all : rest ≡ flat_map chain_bytes a.0.0 = found.1 ∙ ap (λ t. flat_map chain_bytes a.0.0 ++ t) none ∙ append-nil (flat_map chain_bytes a.0.0) in
-    subst (λ (x : List (List ℕ)). AllGood (IsChain level) [] x × (rest ≡ flat_map chain_bytes x) × (length x ≡ count)) (ok_is {F = FailedCheck} a.0.0 chains g.1) (found.0, all, found.2)
+    subst (λ (x : List (List ℕ)). AllGood (IsTileChain level) [] x × (rest ≡ flat_map chain_bytes x) × (length x ≡ count)) (ok_is {F = FailedCheck} a.0.0 chains g.1) (found.0, all, found.2)
 
-chains_again : (level end : ℕ) (chains : List (List ℕ)) → AllGood (IsChain level) [] chains → chains_at level end (length chains) (flat_map chain_bytes chains) ≡ Ok chains
+chains_again : (level end : ℕ) (chains : List (List ℕ)) → AllGood (IsTileChain level) [] chains → chains_at level end (length chains) (flat_map chain_bytes chains) ≡ Ok chains
 unfolding chains_at
 chains_again level end chains good =
     let k : read_many (chain_at level end) (length chains) [] (flat_map chain_bytes chains) ≡ Ok (chains, []) =
@@ -93,9 +93,9 @@ chains_again level end chains good =
     rw k refl
 
 pub record ListsGood (level : ℕ) (edges : List EdgeFields) (l : TileLists) : Type 0 where
-  pub chains : AllGood (IsChain level) [] l.chains
+  pub chains : AllGood (IsTileChain level) [] l.chains
   pub chain_places : named_chains edges ≡ chain_offsets 0 l.chains
-  pub sequences : AllGood IsSequence [] l.sequences
+  pub sequences : AllGood IsTileSequence [] l.sequences
 
 pub record ListsTook (h : Header) (edges : List EdgeFields) (rest : List ℕ) (l : TileLists) : Type 0 where
   pub good : ListsGood (level_of h.id) edges l

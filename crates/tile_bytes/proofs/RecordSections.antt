@@ -16,16 +16,16 @@ use Rattle.section_grammar.proofs.WordLaws.{words_bytes-length}
 use Rattle.section_grammar.proofs.Steps.{bind_ok, passed_ok, ok_is}
 use Rattle.tile_bytes.specs.declared.ids.LevelRule.TheVariants as rules
 use Rattle.tile_bytes.specs.declared.header.Header.{Header}
-use Rattle.tile_bytes.specs.Items.{node_at, node_bytes, IsNode, edges_of_nodes, transitions_of_nodes, edge_at, edge_bytes, IsEdge, id_at, IsId}
+use Rattle.tile_bytes.specs.Items.{node_record_at, node_bytes, IsNodeRecord, edges_of_nodes, transitions_of_nodes, edge_record_at, edge_bytes, IsEdgeRecord, id_at, IsId}
 use Rattle.tile_bytes.specs.TileSections.{nodes_at, edges_at, transitions_at, TileRecords, with_transitions, with_edges, records_at}
 use Rattle.tile_bytes.proofs.IdLaws.{ids_section}
 
 -- records that a header's sections may hold
 pub record RecordsGood (h : Header) (r : TileRecords) : Type 0 where
-  pub nodes : AllGood (IsNode (level_of h.id) (tile_of_id h.id)) [] r.nodes
+  pub nodes : AllGood (IsNodeRecord (level_of h.id) (tile_of_id h.id)) [] r.nodes
   pub edge_counts : edges_of_nodes r.nodes ≡ h.edges
   pub transition_counts : transitions_of_nodes r.nodes ≡ h.transitions
-  pub edges : AllGood (IsEdge (level_of h.id)) [] r.edges
+  pub edges : AllGood (IsEdgeRecord (level_of h.id)) [] r.edges
   pub transitions : AllGood (IsId (rules.Except (level_of h.id))) [] r.transitions
   pub node_number : length r.nodes ≡ h.nodes
   pub edge_number : length r.edges ≡ h.edges
@@ -72,18 +72,18 @@ records_bytes-length r after =
       words_bytes-length r.transitions,
     )
 
-module _ (node_section : (level tile end : ℕ) → IsSection (node_at level tile end) node_bytes (IsNode level tile))
-    (edge_section : (level end : ℕ) → IsSection (edge_at level end) edge_bytes (IsEdge level)) where
+module _ (node_section : (level tile end : ℕ) → IsSection (node_record_at level tile end) node_bytes (IsNodeRecord level tile))
+    (edge_section : (level end : ℕ) → IsSection (edge_record_at level end) edge_bytes (IsEdgeRecord level)) where
   nodes_take : (end : ℕ) (h : Header) (rest : List ℕ) (nodes : List NodeFields) (after : List ℕ) → IsByteList rest → nodes_at end h rest ≡ Ok (nodes, after)
-      → AllGood (IsNode (level_of h.id) (tile_of_id h.id)) [] nodes × (rest ≡ flat_map node_bytes nodes ++ after) × (length nodes ≡ h.nodes) × (edges_of_nodes nodes ≡ h.edges) × (transitions_of_nodes nodes ≡ h.transitions)
+      → AllGood (IsNodeRecord (level_of h.id) (tile_of_id h.id)) [] nodes × (rest ≡ flat_map node_bytes nodes ++ after) × (length nodes ≡ h.nodes) × (edges_of_nodes nodes ≡ h.edges) × (transitions_of_nodes nodes ≡ h.transitions)
   unfolding nodes_at
   nodes_take end h rest nodes after fits e =
-      let item = node_at (level_of h.id) (tile_of_id h.id) end in
+      let item = node_record_at (level_of h.id) (tile_of_id h.id) end in
       let a = bind_ok (read_many item h.nodes [] rest) (λ x. cond (eqb (edges_of_nodes x.0) h.edges && eqb (transitions_of_nodes x.0) h.transitions) (Ok x) (Err (Check 8 (place_of end x.1)))) (nodes, after) e in
       let g = passed_ok (eqb (edges_of_nodes a.0.0) h.edges && eqb (transitions_of_nodes a.0.0) h.transitions) (Check 8 (place_of end a.0.1)) (Ok a.0) (nodes, after) a.2 in
       let t = and_parts (eqb (edges_of_nodes a.0.0) h.edges) (eqb (transitions_of_nodes a.0.0) h.transitions) g.0 in
       let found = (node_section (level_of h.id) (tile_of_id h.id) end).found h.nodes rest a.0.0 a.0.1 fits a.1 in
-      subst (λ (x : List NodeFields × List ℕ). AllGood (IsNode (level_of h.id) (tile_of_id h.id)) [] x.0 × (rest ≡ flat_map node_bytes x.0 ++ x.1) × (length x.0 ≡ h.nodes) × (edges_of_nodes x.0 ≡ h.edges) × (transitions_of_nodes x.0 ≡ h.transitions))
+      subst (λ (x : List NodeFields × List ℕ). AllGood (IsNodeRecord (level_of h.id) (tile_of_id h.id)) [] x.0 × (rest ≡ flat_map node_bytes x.0 ++ x.1) × (length x.0 ≡ h.nodes) × (edges_of_nodes x.0 ≡ h.edges) × (transitions_of_nodes x.0 ≡ h.transitions))
       (ok_is {F = FailedCheck} a.0 (nodes, after) g.1) (found.0, found.1, found.2, eqb-true _ _ t.0, eqb-true _ _ t.1)
 
   pub records_take : (end : ℕ) (h : Header) (rest : List ℕ) (r : TileRecords) (after : List ℕ) → IsByteList rest → records_at end h rest ≡ Ok (r, after) → RecordsGood h r × (rest ≡ records_bytes r after)
@@ -107,8 +107,8 @@ module _ (node_section : (level tile end : ℕ) → IsSection (node_at level til
   unfolding nodes_at
   nodes_again end h r rest good =
       let read = (node_section (level_of h.id) (tile_of_id h.id) end).spelled r.nodes rest good.nodes in
-      let n : read_many (node_at (level_of h.id) (tile_of_id h.id) end) h.nodes [] (flat_map node_bytes r.nodes ++ rest) ≡ Ok (r.nodes, rest) =
-      ap (λ k. read_many (node_at (level_of h.id) (tile_of_id h.id) end) k [] (flat_map node_bytes r.nodes ++ rest)) (sym good.node_number) ∙ read in
+      let n : read_many (node_record_at (level_of h.id) (tile_of_id h.id) end) h.nodes [] (flat_map node_bytes r.nodes ++ rest) ≡ Ok (r.nodes, rest) =
+      ap (λ k. read_many (node_record_at (level_of h.id) (tile_of_id h.id) end) k [] (flat_map node_bytes r.nodes ++ rest)) (sym good.node_number) ∙ read in
       let test = and_from (eqb (edges_of_nodes r.nodes) h.edges) (eqb (transitions_of_nodes r.nodes) h.transitions) (eq-eqb _ _ good.edge_counts) (eq-eqb _ _ good.transition_counts) in
       rw (n, test) refl
 
@@ -118,8 +118,8 @@ module _ (node_section : (level tile end : ℕ) → IsSection (node_at level til
       let rest2 = words_bytes r.transitions ++ after in
       let rest1 = flat_map edge_bytes r.edges ++ rest2 in
       let one = nodes_again end h r rest1 good in
-      let two : read_many (edge_at (level_of h.id) end) h.edges [] rest1 ≡ Ok (r.edges, rest2) =
-      ap (λ k. read_many (edge_at (level_of h.id) end) k [] rest1) (sym good.edge_number) ∙ (edge_section (level_of h.id) end).spelled r.edges rest2 good.edges in
+      let two : read_many (edge_record_at (level_of h.id) end) h.edges [] rest1 ≡ Ok (r.edges, rest2) =
+      ap (λ k. read_many (edge_record_at (level_of h.id) end) k [] rest1) (sym good.edge_number) ∙ (edge_section (level_of h.id) end).spelled r.edges rest2 good.edges in
       let three : read_many (id_at (rules.Except (level_of h.id)) 10 end) h.transitions [] rest2 ≡ Ok (r.transitions, after) =
       ap (λ k. read_many (id_at (rules.Except (level_of h.id)) 10 end) k [] rest2) (sym good.transition_number) ∙ (ids_section (rules.Except (level_of h.id)) 10 end).spelled r.transitions after good.transitions in
       rw (one, two, three) refl

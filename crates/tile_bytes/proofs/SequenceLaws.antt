@@ -13,10 +13,10 @@ use Rattle.section_grammar.proofs.WordLaws.{word_takes, word_again, word_after, 
 use Rattle.section_grammar.proofs.Sections.{filling_of}
 use Rattle.tile_bytes.specs.declared.ids.LevelRule.{LevelRule}
 use Rattle.tile_bytes.specs.declared.ids.LevelRule.TheVariants as rules
-use Rattle.tile_bytes.specs.declared.sequences.TheConstants.{VEHICLES}
+use Rattle.way_tags.specs.declared.modes.TheConstants.{VEHICLES}
 use Rattle.tile_bytes.specs.declared.sequences.Sequence.{Sequence}
 use Rattle.tile_bytes.specs.Items.{IsId, id_at}
-use Rattle.tile_bytes.specs.Sequences.{sequence_bytes, sequence_passes, sequence_in, first_word_passes, sequence_at, IsSequence}
+use Rattle.tile_bytes.specs.Sequences.{sequence_bytes, sequence_passes, sequence_in, first_word_passes, sequence_at, IsTileSequence}
 use Rattle.tile_bytes.proofs.IdLaws.{ids_section}
 use Rattle.tile_bytes.proofs.SequenceSteps.{sequence_taken}
 
@@ -36,7 +36,7 @@ with_edges_and edges modes = record { edges = edges; modes = modes }
 same_sequence : (edges edges' : List ℕ) (modes modes' : ℕ) → edges ≡ edges' → modes ≡ modes' → with_edges_and edges modes ≡ with_edges_and edges' modes'
 same_sequence edges edges' modes modes' e f = rw (e, f) refl
 
-sequence_takes : (end : ℕ) (before : List Sequence) (rest : List ℕ) (s : Sequence) (after : List ℕ) → IsByteList rest → sequence_at end before rest ≡ Ok (s, after) → IsSequence before s × (rest ≡ sequence_bytes s ++ after)
+sequence_takes : (end : ℕ) (before : List Sequence) (rest : List ℕ) (s : Sequence) (after : List ℕ) → IsByteList rest → sequence_at end before rest ≡ Ok (s, after) → IsTileSequence before s × (rest ≡ sequence_bytes s ++ after)
 unfolding sequence_bytes
 sequence_takes end before rest s after fits e =
     let t = sequence_taken end before rest s after e in
@@ -74,7 +74,7 @@ made_again end s rest bytes w before is left long len modes passes ids =
     let which : word_in bytes / 2 ^ 16 % 2 ^ 16 ≡ s.modes = ap (λ n. n / 2 ^ 16 % 2 ^ 16) is ∙ modes in
     rw (long, passes, count, left, ids, which) refl
 
-sequence_again : (end : ℕ) (before : List Sequence) (s : Sequence) (rest : List ℕ) → IsSequence before s → sequence_at end before (sequence_bytes s ++ rest) ≡ Ok (s, rest)
+sequence_again : (end : ℕ) (before : List Sequence) (s : Sequence) (rest : List ℕ) → IsTileSequence before s → sequence_at end before (sequence_bytes s ++ rest) ≡ Ok (s, rest)
 unfolding sequence_bytes
 sequence_again end before s rest is =
     let n = length s.edges in
@@ -101,9 +101,9 @@ sequence_again end before s rest is =
     let ids = (ids_section rules.Any 12 end).spelled s.edges rest is.fits_so in
     ap (sequence_at end before) (append_assoc (word_bytes w) (words_bytes s.edges) rest) ∙ made_again end s rest bytes w before w-is left long len modes passes ids
 
-sequence_some : (before : List Sequence) (s : Sequence) → IsSequence before s → 0 < length (sequence_bytes s)
+sequence_some : (before : List Sequence) (s : Sequence) → IsTileSequence before s → 0 < length (sequence_bytes s)
 unfolding sequence_bytes
 sequence_some before s is = omega (arith, length-append (word_bytes (length s.edges + 2 ^ 16 * s.modes)) (words_bytes s.edges), word_length (length s.edges + 2 ^ 16 * s.modes))
 
-pub sequences_filling : (end : ℕ) → FillsSection (sequence_at end) sequence_bytes IsSequence
-sequences_filling end = filling_of (sequence_at end) sequence_bytes IsSequence (record { takes = sequence_takes end; again = sequence_again end }) sequence_some
+pub sequences_filling : (end : ℕ) → FillsSection (sequence_at end) sequence_bytes IsTileSequence
+sequences_filling end = filling_of (sequence_at end) sequence_bytes IsTileSequence (record { takes = sequence_takes end; again = sequence_again end }) sequence_some

@@ -23,7 +23,7 @@ use Rattle.edge_info.specs.InfoSets.{gap, joined_bytes}
 use Rattle.tile_bytes.specs.declared.header.TheConstants.{MOST_RECORDS}
 use Rattle.tile_bytes.specs.declared.header.Header.{Header}
 use Rattle.tile_bytes.specs.declared.tile.Tile.{Tile}
-use Rattle.tile_bytes.specs.Header.{file_size, header_at, header_words, corner_word, names_tile, IsHeader}
+use Rattle.tile_bytes.specs.Header.{file_size, header_at, header_words, corner_word, names_tile, IsTileHeader}
 use Rattle.tile_bytes.specs.Items.{node_bytes, edge_bytes}
 use Rattle.tile_bytes.specs.Chains.{chain_bytes, words_of_chains}
 use Rattle.tile_bytes.specs.Sequences.{sequence_bytes, words_of_sequences}
@@ -206,7 +206,7 @@ texts_count (t ∷ ts) =
     let len : length (texts_bytes (t ∷ ts)) ≡ length (half_bytes (length t) ++ t) + length (texts_bytes ts) = ap length (flat_map-cons text_bytes t ts) ∙ length-append (text_bytes t) (texts_bytes ts) in
     omega (arith, len, length-append (half_bytes (length t)) t, half_length (length t), texts_count ts)
 
-header_good : (tile : Tile) → PassesChecks tile → FitsHeader tile → IsHeader (header_of_tile tile)
+header_good : (tile : Tile) → PassesChecks tile → FitsHeader tile → IsTileHeader (header_of_tile tile)
 unfolding header_of_tile
 header_good tile passes fits = record {
   tile = passes.id;

@@ -25,8 +25,8 @@ pub record AreIds (level : ℕ) (ids : List ℕ) : Type 0 where
 abbrev pub chain_passes : List (List ℕ) → List ℕ → Bool
 chain_passes before ids = nat_le 2 (length ids)
 
-abbrev pub IsChain : ℕ → List (List ℕ) → List ℕ → Type 0
-IsChain level = IsNext (AreIds level) chain_passes
+abbrev pub IsTileChain : ℕ → List (List ℕ) → List ℕ → Type 0
+IsTileChain level = IsNext (AreIds level) chain_passes
 
 -- The next chain. Where its number is below 2 or runs past the section, that is the place; then each GraphId is looked at.
 unfoldable pub chain_at : ℕ → ℕ → List (List ℕ) → List ℕ → Result (List ℕ × List ℕ) FailedCheck

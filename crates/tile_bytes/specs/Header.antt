@@ -7,7 +7,8 @@ use Rattle.section_grammar.specs.WordBytes.{words_in}
 use Rattle.section_grammar.specs.Answers.{FailedCheck, Check}
 use Rattle.edge_info.specs.InfoSets.{gap}
 use Rattle.tile_bytes.specs.declared.header.Header.{Header}
-use Rattle.tile_bytes.specs.declared.header.TheConstants.{SIGNATURE, MOST_RECORDS, MODES}
+use Rattle.tile_bytes.specs.declared.header.TheConstants.{SIGNATURE, MOST_RECORDS}
+use Rattle.way_tags.specs.declared.modes.TheConstants.{ALL}
 use Rattle.tile_bytes.specs.Modes.{is_within}
 
 -- the halves of a word
@@ -64,7 +65,7 @@ names_tile id = nat_lt id invalid && nat_le (level_of id) 2 && nat_lt (tile_of_i
 
 -- there are modes, all of them known
 abbrev pub are_modes : ℕ → Bool
-are_modes modes = nat_lt 0 modes && is_within modes MODES
+are_modes modes = nat_lt 0 modes && is_within modes ALL
 
 -- check 2: the file begins with the eight bytes `MJTILE01`
 abbrev pub has_signature : List ℕ → Bool
@@ -113,7 +114,7 @@ header_at bytes =
     else tested (header_tests (length bytes) (words_in 8 bytes)) (header_of (words_in 8 bytes), drop 64 bytes)
 
 -- what a header that passes the checks is, beside that its numbers fit
-pub record IsHeader (h : Header) : Type 0 where
+pub record IsTileHeader (h : Header) : Type 0 where
   pub tile : names_tile h.id ≡ true
   pub few_nodes : h.nodes ≤ MOST_RECORDS
   pub few_edges : h.edges ≤ MOST_RECORDS

@@ -74,11 +74,11 @@ node_passes level tile before n =
 abbrev pub node_bytes : NodeFields → List ℕ
 node_bytes n = words_bytes (node_words n)
 
-abbrev pub IsNode : ℕ → ℕ → List NodeFields → NodeFields → Type 0
-IsNode level tile = IsNext NodeFits (node_passes level tile)
+abbrev pub IsNodeRecord : ℕ → ℕ → List NodeFields → NodeFields → Type 0
+IsNodeRecord level tile = IsNext NodeFits (node_passes level tile)
 
-abbrev pub node_at : ℕ → ℕ → ℕ → List NodeFields → List ℕ → Result (NodeFields × List ℕ) FailedCheck
-node_at level tile end = record_at node_read (node_passes level tile) 8 end
+abbrev pub node_record_at : ℕ → ℕ → ℕ → List NodeFields → List ℕ → Result (NodeFields × List ℕ) FailedCheck
+node_record_at level tile end = record_at node_read (node_passes level tile) 8 end
 
 -- ---- edges
 
@@ -89,11 +89,11 @@ edge_passes level before e = level_of e.end == level && class_level e.class == l
 abbrev pub edge_bytes : EdgeFields → List ℕ
 edge_bytes e = words_bytes (edge_words e)
 
-abbrev pub IsEdge : ℕ → List EdgeFields → EdgeFields → Type 0
-IsEdge level = IsNext EdgeFits (edge_passes level)
+abbrev pub IsEdgeRecord : ℕ → List EdgeFields → EdgeFields → Type 0
+IsEdgeRecord level = IsNext EdgeFits (edge_passes level)
 
-abbrev pub edge_at : ℕ → ℕ → List EdgeFields → List ℕ → Result (EdgeFields × List ℕ) FailedCheck
-edge_at level end = record_at edge_read (edge_passes level) 9 end
+abbrev pub edge_record_at : ℕ → ℕ → List EdgeFields → List ℕ → Result (EdgeFields × List ℕ) FailedCheck
+edge_record_at level end = record_at edge_read (edge_passes level) 9 end
 
 -- ---- GraphIds
 

@@ -5,7 +5,8 @@ use Rattle.std.specs.Ordering.{nat_cmp, is_lt, is_eq}
 use Rattle.section_grammar.specs.WordBytes.{word_in, words_in, word_bytes, words_bytes}
 use Rattle.section_grammar.specs.Reads.{◌>>=◌, read_many, read_all, AllGood}
 use Rattle.section_grammar.specs.Answers.{FailedCheck, Check, place_of}
-use Rattle.tile_bytes.specs.declared.sequences.TheConstants.{VEHICLES, FEWEST_EDGES, MOST_EDGES}
+use Rattle.way_tags.specs.declared.modes.TheConstants.{VEHICLES}
+use Rattle.tile_bytes.specs.declared.sequences.TheConstants.{FEWEST_EDGES, MOST_EDGES}
 use Rattle.tile_bytes.specs.declared.sequences.Sequence.{Sequence}
 use Rattle.tile_bytes.specs.declared.ids.LevelRule.TheVariants as rules
 use Rattle.tile_bytes.specs.Modes.{is_within}
@@ -37,8 +38,8 @@ sequence_passes before s =
 abbrev pub HasIds : Sequence → Type 0
 HasIds s = AllGood (IsId rules.Any) [] s.edges
 
-abbrev pub IsSequence : List Sequence → Sequence → Type 0
-IsSequence = IsNext HasIds sequence_passes
+abbrev pub IsTileSequence : List Sequence → Sequence → Type 0
+IsTileSequence = IsNext HasIds sequence_passes
 
 -- what the bytes begin with: a sequence with as many of the words behind its first word as that says
 abbrev pub sequence_in : List ℕ → Sequence

@@ -7,17 +7,17 @@ use Rattle.section_grammar.specs.Reads.{◌>>=◌, read_many}
 use Rattle.section_grammar.specs.Answers.{FailedCheck, Check, place_of}
 use Rattle.tile_bytes.specs.declared.ids.LevelRule.TheVariants as rules
 use Rattle.tile_bytes.specs.declared.header.Header.{Header}
-use Rattle.tile_bytes.specs.Items.{edges_of_nodes, transitions_of_nodes, node_at, edge_at, id_at}
+use Rattle.tile_bytes.specs.Items.{edges_of_nodes, transitions_of_nodes, node_record_at, edge_record_at, id_at}
 use Rattle.tile_bytes.specs.Chains.{chains_at, named_chains, chain_offsets, offsets_at}
 
 -- the nodes; where their counts don't add up to the header's, the place is their end
 unfoldable pub nodes_at : ℕ → Header → List ℕ → Result (List NodeFields × List ℕ) FailedCheck
 nodes_at end h rest =
-    read_many (node_at (level_of h.id) (tile_of_id h.id) end) h.nodes [] rest >>= λ x.
+    read_many (node_record_at (level_of h.id) (tile_of_id h.id) end) h.nodes [] rest >>= λ x.
     if edges_of_nodes x.0 == h.edges && transitions_of_nodes x.0 == h.transitions then Ok x else Err (Check 8 (place_of end x.1))
 
 unfoldable pub edges_at : ℕ → Header → List ℕ → Result (List EdgeFields × List ℕ) FailedCheck
-edges_at end h rest = read_many (edge_at (level_of h.id) end) h.edges [] rest
+edges_at end h rest = read_many (edge_record_at (level_of h.id) end) h.edges [] rest
 
 unfoldable pub transitions_at : ℕ → Header → List ℕ → Result (List ℕ × List ℕ) FailedCheck
 transitions_at end h rest = read_many (id_at (rules.Except (level_of h.id)) 10 end) h.transitions [] rest

@@ -13,9 +13,9 @@ use Rattle.tile_bytes.specs.declared.header.Header.{Header}
 use Rattle.tile_bytes.specs.declared.ids.LevelRule.TheVariants as rules
 use Rattle.tile_bytes.specs.declared.tile.Tile.{Tile}
 use Rattle.tile_bytes.specs.Header.{header_words, names_tile, are_modes}
-use Rattle.tile_bytes.specs.Items.{node_bytes, IsNode, edges_of_nodes, transitions_of_nodes, edge_bytes, IsEdge, IsId}
-use Rattle.tile_bytes.specs.Chains.{chain_bytes, words_of_chains, IsChain, named_chains, chain_offsets}
-use Rattle.tile_bytes.specs.Sequences.{sequence_bytes, words_of_sequences, IsSequence}
+use Rattle.tile_bytes.specs.Items.{node_bytes, IsNodeRecord, edges_of_nodes, transitions_of_nodes, edge_bytes, IsEdgeRecord, IsId}
+use Rattle.tile_bytes.specs.Chains.{chain_bytes, words_of_chains, IsTileChain, named_chains, chain_offsets}
+use Rattle.tile_bytes.specs.Sequences.{sequence_bytes, words_of_sequences, IsTileSequence}
 
 -- check 14: an edge's `info` is the start of an entry
 abbrev pub has_entry : List ℕ → EdgeFields → Bool
@@ -28,14 +28,14 @@ pub record PassesChecks (tile : Tile) : Type 0 where
   pub few_nodes : length tile.nodes ≤ MOST_RECORDS
   pub few_edges : length tile.edges ≤ MOST_RECORDS
   pub few_transitions : length tile.transitions ≤ 2 * length tile.nodes
-  pub nodes : AllGood (IsNode (level_of tile.id) (tile_of_id tile.id)) [] tile.nodes
+  pub nodes : AllGood (IsNodeRecord (level_of tile.id) (tile_of_id tile.id)) [] tile.nodes
   pub edge_counts : edges_of_nodes tile.nodes ≡ length tile.edges
   pub transition_counts : transitions_of_nodes tile.nodes ≡ length tile.transitions
-  pub edges : AllGood (IsEdge (level_of tile.id)) [] tile.edges
+  pub edges : AllGood (IsEdgeRecord (level_of tile.id)) [] tile.edges
   pub transitions : AllGood (IsId (rules.Except (level_of tile.id))) [] tile.transitions
-  pub chains : AllGood (IsChain (level_of tile.id)) [] tile.chains
+  pub chains : AllGood (IsTileChain (level_of tile.id)) [] tile.chains
   pub chain_places : named_chains tile.edges ≡ chain_offsets 0 tile.chains
-  pub sequences : AllGood IsSequence [] tile.sequences
+  pub sequences : AllGood IsTileSequence [] tile.sequences
   pub infos : AreInfos (length tile.texts) tile.infos
   pub entries : All (λ e. has_entry (starts_of tile.infos) e ≡ true) tile.edges
   pub texts : AreTexts (names_of tile.infos) tile.texts

@@ -10,15 +10,13 @@ use fixed_geo::Point;
 use graph_id::GraphId;
 use section_grammar::{SectionFault, four_words, word};
 use tile_geometry::south_west;
+use way_tags::ALL;
 
 /// The eight bytes `MJTILE01`, as a word.
 pub const SIGNATURE: u64 = 0x3130_454c_4954_4a4d;
 
 /// The most nodes, and the most edges, of a tile.
 pub const MOST_RECORDS: u32 = 2_097_151;
-
-/// All travel modes.
-pub const MODES: u16 = 79;
 
 /// What a header says.
 #[derive(Clone, Copy, Debug)]
@@ -97,7 +95,7 @@ pub(crate) fn file_size(header: &Header) -> u64
 fn are_modes(modes: u16) -> bool
     ensures { result ≡ are_modes modes }
 {
-    modes > 0 && modes & MODES == modes
+    modes > 0 && modes & ALL == modes
 }
 
 /// The header that eight words say, of which the second is this GraphId.

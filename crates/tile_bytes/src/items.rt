@@ -5,7 +5,7 @@ ghost use Rattle.tile_records.specs.Nodes.{NodeFields};
 ghost use Rattle.tile_records.specs.Edges.{EdgeFields};
 ghost use Rattle.section_grammar.specs.Reads.{read_many};
 ghost use Rattle.section_grammar.specs.Answers.{Gives};
-ghost use Rattle.tile_bytes.specs.Items.{lies_in, node_passes, node_at, edge_passes, edge_at, edges_of_nodes, transitions_of_nodes};
+ghost use Rattle.tile_bytes.specs.Items.{lies_in, node_passes, node_record_at, edge_passes, edge_record_at, edges_of_nodes, transitions_of_nodes};
 ghost use Rattle.tile_bytes.specs.Chains.{named_chains};
 ghost use Rattle.tile_bytes.specs.Sums.{SumsUp, above_last};
 
@@ -75,7 +75,7 @@ fn node_of(
     bytes: &[u8],
 ) -> Result<NodeRec, SectionFault>
     requires { level ≤ 2 }
-    ensures node { (before : List NodeFields) → SumsUp before sums.now → Gives (λ n. (n, drop 32 bytes.now)) result (node_at level tile end before bytes.now) }
+    ensures node { (before : List NodeFields) → SumsUp before sums.now → Gives (λ n. (n, drop 32 bytes.now)) result (node_record_at level tile end before bytes.now) }
     ensures whole { IfOk result (λ _. 32 ≤ length bytes.now) }
 {
     let at = place(end, bytes);
@@ -139,7 +139,7 @@ pub(crate) fn nodes_of(
     bytes: &[u8],
 ) -> Result<(Vec<NodeRec>, u64, u64, &[u8]), SectionFault>
     requires { level ≤ 2 }
-    ensures nodes { Gives (λ x. (x.0.items, x.3.now)) result (read_many (node_at level tile end) count [] bytes.now) }
+    ensures nodes { Gives (λ x. (x.0.items, x.3.now)) result (read_many (node_record_at level tile end) count [] bytes.now) }
     ensures edges { IfOk result (λ x. x.1 ≡ edges_of_nodes x.0.items) }
     ensures transitions { IfOk result (λ x. x.2 ≡ transitions_of_nodes x.0.items) }
 {
@@ -163,7 +163,7 @@ pub(crate) fn nodes_of(
 /// A directed edge at the front.
 #[tactic(auto, unfolding(crate::specs::Items::record_at, crate::specs::Items::record_found))]
 fn edge_of(end: u64, level: u32, bytes: &[u8]) -> Result<EdgeRec, SectionFault>
-    ensures edge { (before : List EdgeFields) → Gives (λ e. (e, drop 32 bytes.now)) result (edge_at level end before bytes.now) }
+    ensures edge { (before : List EdgeFields) → Gives (λ e. (e, drop 32 bytes.now)) result (edge_record_at level end before bytes.now) }
     ensures whole { IfOk result (λ _. 32 ≤ length bytes.now) }
 {
     let at = place(end, bytes);
@@ -203,7 +203,7 @@ pub(crate) fn edges_of(
     count: u32,
     bytes: &[u8],
 ) -> Result<(Vec<EdgeRec>, u64, &[u8]), SectionFault>
-    ensures edges { Gives (λ x. (x.0.items, x.2.now)) result (read_many (edge_at level end) count [] bytes.now) }
+    ensures edges { Gives (λ x. (x.0.items, x.2.now)) result (read_many (edge_record_at level end) count [] bytes.now) }
     ensures shortcuts { IfOk result (λ x. x.1 ≡ length (named_chains x.0.items)) }
 {
     let mut edges = Vec::with_capacity(alloc, count as usize)?;

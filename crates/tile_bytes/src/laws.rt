@@ -1,11 +1,11 @@
 //! Each section is read as it was written, and was written as it is read.
 ghost use Rattle.std.specs.Prelude.{◌≡◌, ℕ, List, Ok};
 ghost use Rattle.section_grammar.specs.Sections.{IsSection, FillsSection};
-ghost use Rattle.tile_bytes.specs.Items.{node_at, node_bytes, IsNode, edge_at, edge_bytes, IsEdge, id_at, IsId};
+ghost use Rattle.tile_bytes.specs.Items.{node_record_at, node_bytes, IsNodeRecord, edge_record_at, edge_bytes, IsEdgeRecord, id_at, IsId};
 ghost use Rattle.tile_bytes.specs.declared.ids.LevelRule.{LevelRule};
 ghost use Rattle.section_grammar.specs.WordBytes.{word_bytes};
-ghost use Rattle.tile_bytes.specs.Chains.{chain_at, chain_bytes, IsChain};
-ghost use Rattle.tile_bytes.specs.Sequences.{sequence_at, sequence_bytes, IsSequence};
+ghost use Rattle.tile_bytes.specs.Chains.{chain_at, chain_bytes, IsTileChain};
+ghost use Rattle.tile_bytes.specs.Sequences.{sequence_at, sequence_bytes, IsTileSequence};
 ghost use Rattle.section_grammar.specs.WordBytes.{IsByteList};
 ghost use Rattle.tile_bytes.specs.declared.tile.Tile.{Tile};
 ghost use Rattle.tile_bytes.specs.Tiles.{TileSpelled};
@@ -16,14 +16,14 @@ use tile_records::{edge_law, node_law};
 
 /// The section of nodes.
 pub fn nodes_law()
-    ensures { (level tile end : ℕ) → IsSection (node_at level tile end) node_bytes (IsNode level tile) }
+    ensures { (level tile end : ℕ) → IsSection (node_record_at level tile end) node_bytes (IsNodeRecord level tile) }
 {
     node_law();
 }
 
 /// The section of edges.
 pub fn edges_law()
-    ensures { (level end : ℕ) → IsSection (edge_at level end) edge_bytes (IsEdge level) }
+    ensures { (level end : ℕ) → IsSection (edge_record_at level end) edge_bytes (IsEdgeRecord level) }
 {
     edge_law();
 }
@@ -35,12 +35,12 @@ pub fn ids_law()
 
 /// The section of chains.
 pub fn chains_law()
-    ensures { (level end : ℕ) → IsSection (chain_at level end) chain_bytes (IsChain level) }
+    ensures { (level end : ℕ) → IsSection (chain_at level end) chain_bytes (IsTileChain level) }
 {}
 
 /// The section of sequences.
 pub fn sequences_law()
-    ensures { (end : ℕ) → FillsSection (sequence_at end) sequence_bytes IsSequence }
+    ensures { (end : ℕ) → FillsSection (sequence_at end) sequence_bytes IsTileSequence }
 {}
 
 /// Bytes spell the tile that is read from them, a tile has one spelling, and bytes spell at most one tile.

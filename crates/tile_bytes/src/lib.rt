@@ -8,6 +8,8 @@ mod header;
 mod ids;
 mod items;
 mod laws;
+#[cfg(test)]
+mod random_tiles;
 mod read;
 mod record_sections;
 mod sequence_section;
@@ -20,12 +22,12 @@ mod write;
 mod write_whole;
 
 pub use chains::Chains;
-pub use header::{Header, MODES, MOST_RECORDS, SIGNATURE};
+pub use header::{Header, MOST_RECORDS, SIGNATURE};
 pub use ids::{Ids, LevelRule};
 pub use items::{EdgeRecs, NodeRecs};
 pub use laws::{chains_law, edges_law, ids_law, nodes_law, sequences_law, tile_law};
 pub use read::{TileFault, read_tile};
-pub use sequences::{FEWEST_EDGES, MOST_EDGES, Sequence, Sequences, VEHICLES};
+pub use sequences::{FEWEST_EDGES, MOST_EDGES, Sequence, Sequences};
 pub use tile::Tile;
 pub use write::WriteFault;
 pub use write_whole::write_tile;

@@ -1,7 +1,8 @@
 //! Reading a tile file.
-ghost use Rattle.std.specs.Prelude.{◌≡◌, ◌≤◌, ◌<◌, ◌^◌, ℕ, length, slice_index, IfOk, Ok};
+ghost use Rattle.std.specs.Prelude.{◌≡◌, ◌≤◌, ◌<◌, ◌^◌, ℕ, List, length, IfOk, Ok};
 ghost use Rattle.section_grammar.specs.Answers.{Gives};
 ghost use Rattle.edge_info.specs.Entries.{infos_bytes, starts_of};
+ghost use Rattle.edge_info.specs.Starts.{MarkStarts};
 ghost use Rattle.edge_info.specs.EntryReading.{entries_at};
 ghost use Rattle.tile_bytes.specs.declared.tile.Tile.{Tile};
 ghost use Rattle.tile_bytes.specs.Chains.{named_chains};
@@ -17,8 +18,7 @@ use crate::sequence_section::sequences_in;
 use crate::sequences::Sequences;
 use crate::tile::Tile;
 use edge_info::{
-    Info, InfoSet, Infos, entries_law, entry_starts, is_start, read_entries, read_padding,
-    read_texts, starts_law,
+    InfoSet, Infos, entries_law, entry_starts, is_start, read_entries, read_padding, read_texts,
 };
 use osm_model::Seq;
 use section_grammar::{SectionFault, cut, place};
@@ -65,22 +65,20 @@ fn behind_lists<'a>(header: &Header, bytes: &'a [u8]) -> &'a [u8]
     rest
 }
 
-/// Whether the entry of an edge starts at one of these offsets, which rise.
-fn has_entry(starts: &[u64], edge: &EdgeRec) -> bool
-    requires { (i j : ℕ) → i ≤ j → j < length starts.now → slice_index starts.now i ≤ slice_index starts.now j }
-    ensures { result ≡ has_entry starts.now edge.now }
+/// Whether the entry of an edge starts at a marked offset.
+fn has_entry(marks: &[bool], edge: &EdgeRec) -> bool
+    ensures { (starts : List ℕ) → MarkStarts marks.now starts → result ≡ has_entry starts edge.now }
 {
-    is_start(starts, u64::from(edge.info))
+    is_start(marks, edge.info)
 }
 
-/// Whether each edge has an entry that starts at one of these offsets, which rise; the first edge stands at this place.
-fn check_each(at: u64, starts: &[u64], edges: &[EdgeRec]) -> Result<(), SectionFault>
+/// Whether each edge has an entry that starts at a marked offset; the first edge stands at this place.
+fn check_each(at: u64, marks: &[bool], edges: &[EdgeRec]) -> Result<(), SectionFault>
     requires near { at < 2 ^ 62 }
-    requires rising { (i j : ℕ) → i ≤ j → j < length starts.now → slice_index starts.now i ≤ slice_index starts.now j }
-    ensures { Gives (λ _. tt) result (edge_entries_at at starts.now edges.now) }
+    ensures { (starts : List ℕ) → MarkStarts marks.now starts → Gives (λ _. tt) result (edge_entries_at at starts edges.now) }
 {
     for (i, edge) in edges.iter().enumerate() {
-        if !has_entry(starts, edge) {
+        if !has_entry(marks, edge) {
             return Err(SectionFault::Bad {
                 check: 14,
                 at: at + 32 * i as u64,
@@ -104,16 +102,15 @@ fn check_entries(
     alloc: Global,
     at: u64,
     edges: &[EdgeRec],
-    infos: &[Info],
+    infos: &Infos,
     size: usize,
 ) -> Result<(), SectionFault>
     requires near { at < 2 ^ 62 }
     requires spelled { length (infos_bytes infos.now) ≡ size }
     ensures { Gives (λ _. tt) result (edge_entries_at at (starts_of infos.now) edges.now) }
 {
-    starts_law();
-    let starts = entry_starts(alloc, infos)?;
-    check_each(at, &starts, edges)
+    let marks = entry_starts(alloc, infos, size)?;
+    check_each(at, &marks, edges)
 }
 
 /// The entries, where each edge has one, and the texts.
@@ -134,17 +131,11 @@ fn read_set(
         alloc,
         64 + 32 * u64::from(nodes),
         edges,
-        infos.as_slice(),
+        &infos,
         section.len(),
     )?;
     let (section, rest) = cut(rest, header.text_bytes as usize);
-    let texts = read_texts(
-        alloc,
-        place(end, rest),
-        u64::from(count),
-        infos.as_slice(),
-        section,
-    )?;
+    let texts = read_texts(alloc, place(end, rest), u64::from(count), &infos, section)?;
     read_padding(end, rest)?;
     Ok(InfoSet { infos, texts })
 }

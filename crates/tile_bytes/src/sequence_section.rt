@@ -8,11 +8,12 @@ ghost use Rattle.tile_bytes.specs.Items.{rises};
 ghost use Rattle.tile_bytes.specs.Sequences.{sequence_less, sequence_passes, first_word_passes, sequence_at, sequences_at};
 
 use crate::ids::{LevelRule, ids_of};
-use crate::sequences::{FEWEST_EDGES, MOST_EDGES, Sequences, VEHICLES};
+use crate::sequences::{FEWEST_EDGES, MOST_EDGES, Sequences};
 use graph_id::GraphId;
 use section_grammar::{SectionFault, place, word};
 use std::alloc::{AllocError, Global};
 use std::cmp::Ordering;
+use way_tags::VEHICLES;
 
 /// GraphIds compared with words, number by number, a prefix first.
 fn compare(ids: &[GraphId], words: &[u64]) -> Ordering

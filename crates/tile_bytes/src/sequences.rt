@@ -8,9 +8,6 @@ use graph_id::GraphId;
 use std::alloc::{AllocError, Global};
 use std::marker::Model;
 
-/// The modes of vehicles.
-pub const VEHICLES: u16 = 77;
-
 /// The fewest edges of a sequence.
 pub const FEWEST_EDGES: usize = 2;
 

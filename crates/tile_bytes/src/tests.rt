@@ -85,6 +85,18 @@ const FULL: [u64; 42] = [
     0x4200,
 ];
 
+/// The same tile without a node: a header alone.
+const EMPTY: [u64; 8] = [
+    0x3130_454c_4954_4a4d,
+    0x3f_5e82,
+    0,
+    0,
+    0,
+    0,
+    0,
+    0x1_0000_0000_0040,
+];
+
 /// The word at an index: the first of these changes that is for it, or the old word.
 fn changed(changes: &[(usize, u64)], index: usize, old: u64) -> u64 {
     for (at, word) in changes {
@@ -164,9 +176,10 @@ fn written_files(rt: HostRuntime) -> Result<(), Fail> {
     assert_eq!(rt;
         (
             is_written(rt.alloc(), &ROAD)?,
-            is_written(rt.alloc(), &FULL)?
+            is_written(rt.alloc(), &FULL)?,
+            is_written(rt.alloc(), &EMPTY)?
         ),
-        (true, true)
+        (true, true, true)
     );
     Ok(())
 }
@@ -215,6 +228,14 @@ fn short_files(rt: HostRuntime) -> Result<(), Fail> {
         ),
         ((1, 0), (1, 63), (7, 56))
     );
+    Ok(())
+}
+
+/// Nothing is reserved for records that a file has no room for: its size is looked at before.
+#[test]
+fn promised_records(rt: HostRuntime) -> Result<(), Fail> {
+    let most = (3, 0x1f_ffff_001f_ffff);
+    assert_eq!(rt; fault_with(rt.alloc(), &EMPTY, &[most])?, (7, 56));
     Ok(())
 }
 

@@ -125,7 +125,7 @@ pub(crate) fn tails_of(alloc: Global, tile: &Tile) -> Result<Tails, AllocError>
     let chains = chain_section(alloc, &tile.chains)?;
     let sequences = sequence_section(alloc, &tile.sequences)?;
     let mut infos = Vec::new(alloc);
-    push_infos(&mut infos, tile.infos.as_slice())?;
+    push_infos(&mut infos, &tile.infos)?;
     let mut texts = Vec::new(alloc);
     push_texts(&mut texts, tile.texts.as_slice())?;
     Ok(Tails {

@@ -8,7 +8,7 @@ use Rattle.edge_info.proofs.entries.names_of.Goals as goal
 
 pub returns-in_err-name : goal.returns-in_err-name
 returns-in_err-name c =
-    let p = err_from_is_err_and c.from_residual-in_err-name.result c.from_residual-in_err-name.ensures.1 in
+    let p = err_from_is_err_and c.from_residual.result c.from_residual.ensures.1 in
     rw (p.1, p.2) (ends (name_at (Check 13 c.args.at) c.args.texts) c.in_err-name.field-0.0 c.loop.names.items c.args.count c.loop.counter c.loop.rest.now (read_many (name_at (Check 13 c.args.at) c.args.texts) c.args.count [] c.args.rest.now) c.loop-test.true (c.in_err-name.ensures c.loop.names.items) c.loop.invariant)
 
 pub loop-preserved : goal.loop-preserved

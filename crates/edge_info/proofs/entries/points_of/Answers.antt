@@ -8,7 +8,7 @@ use Rattle.edge_info.proofs.entries.points_of.Goals as goal
 
 pub returns-in_err-point : goal.returns-in_err-point
 returns-in_err-point c =
-    let p = err_from_is_err_and c.from_residual-in_err-point.result c.from_residual-in_err-point.ensures.1 in
+    let p = err_from_is_err_and c.from_residual.result c.from_residual.ensures.1 in
     rw (p.1, p.2) (ends (point_at (Check 13 c.args.at)) c.in_err-point.field-0.0 c.loop.points.items c.args.count c.loop.counter c.loop.rest.now (read_many (point_at (Check 13 c.args.at)) c.args.count [] c.args.rest.now) c.loop-test.true (c.in_err-point.ensures c.loop.points.items) c.loop.invariant)
 
 pub loop-preserved : goal.loop-preserved

@@ -8,8 +8,8 @@ use Rattle.edge_info.proofs.entries.read_entries.Given as goal
 
 abbrev pub invariant-loop-rest : goal.invariant-loop-rest
 invariant-loop-rest l =
-    (read_all (entry_at l.end l.texts) (length l.rest) l.infos.items l.rest ≡ entries_at l.end l.texts l.section)
-    × ((key : PieceKey) → key_rises l.infos.items key ≡ rises_after l.last key)
+    (read_all (entry_at l.end l.texts) (length l.rest) l.infos l.rest ≡ entries_at l.end l.texts l.section)
+    × ((key : PieceKey) → key_rises l.infos key ≡ rises_after l.last key)
 
 abbrev pub decreases-loop-rest : goal.decreases-loop-rest
 decreases-loop-rest l = length l.rest
