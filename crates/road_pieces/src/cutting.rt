@@ -3,10 +3,11 @@
 ghost use Rattle.std.specs.Prelude.{◌≡◌, ◌<◌, ◌≤◌, ◌⊎◌, [], Option, None, Some, find, option_map, nat_lt, length, map, flat_map, All, IfOk, IfErr, OnOk};
 ghost use Rattle.osm_model.specs.declared.nodes.OsmNode.{OsmNode};
 ghost use Rattle.road_pieces.specs.declared.faults.CutFault.{CutFault};
-ghost use Rattle.road_pieces.specs.Runs.{all_runs, is_junction};
+ghost use Rattle.road_pieces.specs.Runs.{is_junction};
+ghost use Rattle.road_pieces.specs.RoadsOf.{RoadsOf};
 ghost use Rattle.road_pieces.specs.Lines.{all_lines};
 ghost use Rattle.road_pieces.specs.Parts.{line_rows};
-ghost use Rattle.road_pieces.specs.Rows.{junction_row, junction_rows, piece_rows, routable_ways, missing_refs, too_long, refusal};
+ghost use Rattle.road_pieces.specs.Rows.{junction_row, junction_rows, piece_rows, too_long, refusal};
 
 use crate::counts::{count_pieces, count_places};
 use crate::crossings::find_junctions;
@@ -32,11 +33,7 @@ const LONGEST: u64 = 268_435_455;
 /// More than 4,000,000 pieces are refused, or else the first piece that is longer than 268,435,455 cm. Want of
 /// memory is answered as `OutOfMemory`.
 pub fn cut(alloc: Global, extract: &Extract) -> Result<Roads, CutFault>
-    ensures junctions { IfOk result (λ roads. roads.junctions ≡ junction_rows extract.now) }
-    ensures pieces { IfOk result (λ roads. roads.pieces ≡ piece_rows extract.now) }
-    ensures ways { IfOk result (λ roads. roads.ways ≡ routable_ways extract.now) }
-    ensures runs { IfOk result (λ roads. roads.runs ≡ length (all_runs extract.now)) }
-    ensures missing { IfOk result (λ roads. roads.missing ≡ missing_refs extract.now) }
+    ensures roads { IfOk result (λ roads. RoadsOf extract.now roads) }
 
     // A refusal has its cause, and a cause is refused; only want of memory is free.
     ensures accepted { OnOk result (refusal (piece_rows extract.now) ≡ None) }

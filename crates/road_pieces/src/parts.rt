@@ -3,20 +3,23 @@
 ghost use Rattle.std.specs.Prelude.{◌≡◌, ◌<◌, ◌≤◌, ◌++◌, ◌∷◌, [], length, map, All, OnOk};
 ghost use Rattle.osm_model.specs.OsmNode.{IsPlaced};
 ghost use Rattle.road_pieces.specs.Lines.{Line, IsSound};
+ghost use Rattle.road_pieces.specs.Rules.{class_of, forward_access, backward_access, names_of};
 ghost use Rattle.road_pieces.specs.Runs.{is_junction};
 ghost use Rattle.road_pieces.specs.Parts.{part_row, line_rows};
 
 use crate::lines::Line;
 use crate::pieces::{PieceHead, Pieces};
-use crate::rules::{backward_access, class_of, forward_access, names_of};
-use osm_model::{Extract, Nodes, PieceKey, WayView};
+use crate::rules::{names_of, read_way};
+use osm_model::{Extract, Names, Nodes, PieceKey, WayView};
 use std::alloc::{AllocError, Global};
+use way_tags::RoadTags;
 
-/// Adds the piece over the nodes at these places, two or more.
+/// Adds the piece over the nodes at these places, two or more, of a way of which the tags say this.
 fn add_piece(
-    alloc: Global,
     nodes: &Nodes,
     way: &WayView<'_>,
+    road: RoadTags,
+    names: &Names,
     run: u32,
     piece: u32,
     places: &[u32],
@@ -26,9 +29,12 @@ fn add_piece(
     requires inside { All (λ p. p < length nodes.now) places.now }
     requires some { 0 < length places.now }
     requires short { length places.now ≤ 20_000_000 }
+    requires class { road.class ≡ class_of way.now.tags }
+    requires forward { road.forward ≡ forward_access way.now.tags }
+    requires backward { road.backward ≡ backward_access way.now.tags }
+    requires names { names.now ≡ names_of way.now.tags }
     ensures { OnOk result (pieces.new ≡ pieces.old ++ part_row nodes.now way.now run piece places.now ∷ []) }
 {
-    let names = names_of(alloc, way.tags())?;
     let head = PieceHead {
         key: PieceKey {
             way: way.id(),
@@ -37,11 +43,11 @@ fn add_piece(
         },
         start: nodes.id_at(places[0] as usize),
         end: nodes.id_at(places[places.len() - 1] as usize),
-        class: class_of(way.tags()),
-        forward: forward_access(way.tags()),
-        backward: backward_access(way.tags()),
+        class: road.class,
+        forward: road.forward,
+        backward: road.backward,
     };
-    pieces.push(head, nodes, places, &names)
+    pieces.push(head, nodes, places, names)
 }
 
 /// Adds the pieces of a line to the pieces: one between each two successive junctions of the line, which
@@ -59,15 +65,18 @@ pub(crate) fn cut_line(
 {
     let nodes = &extract.nodes;
     let way = extract.ways.at(line.way as usize);
+    let road = read_way(way.tags());
+    let names = names_of(alloc, way.tags())?;
     let places = line.places;
     let mut piece = 0;
     let mut from = 0;
     for to in 1..places.len() {
         if flags[places[to] as usize] {
             add_piece(
-                alloc,
                 nodes,
                 &way,
+                road,
+                &names,
                 line.number,
                 piece,
                 &places[from..to + 1],
