@@ -30,3 +30,4 @@ mod RowPieces
 mod PlainRoads
 mod ListAgree
 pub mod WorkedRows
+mod WorkedRoads

@@ -42,13 +42,13 @@ nodes_rise id (suc count) =
 low : (n : ℕ) → neg_ℤ (pos n) ≤ℤ pos 0
 low n = omega (arith, ints)
 
-the_node_placed : (id : ℕ) → IsPlaced (the_node id)
-the_node_placed id =
+pub placed_node : (id : ℕ) → IsPlaced (the_node id)
+placed_node id =
     record { from_south = low 900_000_000; to_north = omega (arith, ints); from_west = low 1_800_000_000; to_east = omega (arith, ints) }
 
 pub placed : (id count : ℕ) → All IsPlaced (nodes_from id count)
 placed id zero = All-nil IsPlaced
-placed id (suc count) = All-cons IsPlaced (the_node id) (nodes_from (id + 1) count) (the_node_placed id) (placed (id + 1) count)
+placed id (suc count) = All-cons IsPlaced (the_node id) (nodes_from (id + 1) count) (placed_node id) (placed (id + 1) count)
 
 pub ways_rise : (way : OsmWay) → WaysRise (way ∷ [])
 ways_rise way = λ i j d h l. absurd (omega arith)

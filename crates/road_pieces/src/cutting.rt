@@ -14,7 +14,7 @@ use crate::crossings::find_junctions;
 use crate::faults::CutFault;
 use crate::lines::Lines;
 use crate::parts::cut_line;
-use crate::pieces::Pieces;
+use crate::pieces::{DraftPieces, Pieces};
 use crate::rows::{Junction, Junctions, Roads};
 use crate::rules::{is_barrier, node_access};
 use crate::survey::{Survey, find_lines};
@@ -80,11 +80,11 @@ fn cut_lines(
 {
     // The pieces of a line have its points, and those between two pieces twice.
     let points = (count_places(lines) as usize + count).saturating_sub(lines.len());
-    let mut pieces = Pieces::with_room(alloc, count, points)?;
+    let mut pieces = DraftPieces::with_room(alloc, count, points)?;
     for i in 0..lines.len() {
         cut_line(alloc, extract, flags, &lines.line(i), &mut pieces)?;
     }
-    Ok(pieces)
+    Ok(pieces.finish())
 }
 
 /// Why the first piece that is too long is refused.

@@ -22,6 +22,8 @@ mod rules;
 mod steps;
 mod survey;
 #[cfg(test)]
+mod tagged;
+#[cfg(test)]
 mod tests;
 
 pub use cutting::cut;
