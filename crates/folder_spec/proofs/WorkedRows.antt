@@ -2,7 +2,7 @@
 use Rattle.std.proofs.Common.{◌≡◌, ℕ, ℤ, pos, List, [], ◌∷◌, map, refl, true, false, lit≤}
 use Rattle.osm_model.specs.declared.extract.Extract.{Extract}
 use Rattle.road_pieces.specs.DirectedPiece.{DirectedPiece}
-use Rattle.road_pieces.specs.Rules.{names_of, class_of, forward_access, backward_access, node_access}
+use Rattle.road_pieces.specs.Rules.{is_routable, is_barrier, names_of, class_of, forward_access, backward_access, node_access}
 use Rattle.folder_spec.specs.Links.{base_link}
 use Rattle.road_walks.specs.BaseEdges.{FormatNumbers, directed_pieces}
 use Rattle.folder_spec.specs.Tables.{TileRows, RowTable}
@@ -31,21 +31,22 @@ abbrev again : DirectedPiece
 again = record { way = pos 7; run = 0; from = 0; to = 1; forward = false }
 
 its_pieces : directed_pieces two_nodes ≡ there ∷ (again ∷ [])
+unfolding is_routable is_barrier
 its_pieces = refl
 
 abbrev one_tile : ℕ → ℤ → ℕ
 one_tile k n = 5
 
 its_nodes : nodes_in two_nodes 79 numbers [] one_tile 2 5 ≡ pos 1 ∷ (pos 2 ∷ [])
-unfolding class_of forward_access backward_access node_access
+unfolding is_routable is_barrier class_of forward_access backward_access node_access
 its_nodes = refl
 
 its_tiles : tiles_on two_nodes 79 numbers [] one_tile 2 ≡ 5 ∷ []
-unfolding class_of forward_access backward_access node_access
+unfolding is_routable is_barrier class_of forward_access backward_access node_access
 its_tiles = refl
 
 its_links : links_at two_nodes 79 numbers [] one_tile 2 (pos 2) ≡ base_link again ∷ []
-unfolding class_of forward_access backward_access node_access
+unfolding is_routable is_barrier class_of forward_access backward_access node_access
 its_links = refl
 
 abbrev its_table : RowTable
@@ -59,7 +60,7 @@ its_rows = record {
 }
 
 table_is : its_table.tiles ≡ its_rows ∷ []
-unfolding class_of forward_access backward_access node_access
+unfolding is_routable is_barrier class_of forward_access backward_access node_access
 table_is = refl
 
 abbrev told : ToldFields
@@ -81,16 +82,16 @@ abbrev its_tile : TileFields
 its_tile = tile_from two_nodes told its_table one_tile its_rows
 
 nodes_are : its_tile.nodes ≡ record { osm = pos 1; lat = pos 0; lon = pos 0; edge_index = 0; edge_count = 1; transition_index = 0; transition_count = 0; access = 79; density = 0; barrier = false } ∷ (record { osm = pos 2; lat = pos 0; lon = pos 0; edge_index = 1; edge_count = 1; transition_index = 0; transition_count = 0; access = 79; density = 0; barrier = false } ∷ [])
-unfolding class_of forward_access backward_access node_access
+unfolding is_routable is_barrier class_of forward_access backward_access node_access
 nodes_are = refl
 
 -- the ends of its edges: node 1 and node 0 of tile 5 on level 2
 ends_are : map (λ e. e.end) its_tile.edges ≡ 33_554_474 ∷ (42 ∷ [])
-unfolding class_of forward_access backward_access node_access
+unfolding is_routable is_barrier class_of forward_access backward_access node_access
 ends_are = refl
 
 opposing_are : map (λ e. e.opposing) its_tile.edges ≡ 0 ∷ (0 ∷ [])
-unfolding class_of forward_access backward_access node_access
+unfolding is_routable is_barrier class_of forward_access backward_access node_access
 opposing_are = refl
 
 -- ---- the whole definition, on one way of two nodes where the equator meets the first meridian
@@ -102,16 +103,16 @@ abbrev whole : List TileFields
 whole = folder_tiles two_nodes 79 numbers nothing
 
 its_number : map (λ t. t.tile) whole ≡ 519_120 ∷ []
-unfolding class_of forward_access backward_access node_access names_of grid_tile row_of column_of
+unfolding is_routable is_barrier class_of forward_access backward_access node_access names_of grid_tile row_of column_of
 its_number = refl
 
 its_edges : map (λ t. t.edges) whole ≡ (record { end = 33_554_432 + (8 * 519_120 + 2); mask = 0; opposing = 0; cm = 0; local = 0; opposing_local = 0; leaves_tile = false; shortcut = false; not_thru = true; forward = true; flagged = false; in_chain = false; forward_access = 79; reverse_access = 79; class = 6; name_consistency = 0; info = 0; chain = 0 } ∷ (record { end = 8 * 519_120 + 2; mask = 0; opposing = 0; cm = 0; local = 0; opposing_local = 0; leaves_tile = false; shortcut = false; not_thru = true; forward = false; flagged = false; in_chain = false; forward_access = 79; reverse_access = 79; class = 6; name_consistency = 0; info = 0; chain = 0 } ∷ [])) ∷ []
-unfolding class_of forward_access backward_access node_access names_of grid_tile row_of column_of length_cm square_length longitude_difference latitude_difference west_east short_way cosine_of mean_latitude whole_root_of
+unfolding is_routable is_barrier class_of forward_access backward_access node_access names_of grid_tile row_of column_of length_cm square_length longitude_difference latitude_difference west_east short_way cosine_of mean_latitude whole_root_of
 its_edges = refl
 
 abbrev the_point : Point
 the_point = record { lat = pos 0; lon = pos 0 }
 
 its_infos : map (λ t. t.infos) whole ≡ (record { way = pos 7; run = 0; piece = 0; points = the_point ∷ (the_point ∷ []); names = [] } ∷ []) ∷ []
-unfolding class_of forward_access backward_access node_access names_of grid_tile row_of column_of
+unfolding is_routable is_barrier class_of forward_access backward_access node_access names_of grid_tile row_of column_of
 its_infos = refl

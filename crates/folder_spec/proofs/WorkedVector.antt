@@ -14,7 +14,7 @@ use Rattle.tile_geometry.specs.Grid.{grid_tile, row_of, column_of}
 use Rattle.graph_id.specs.GraphId.{value_of}
 use Rattle.tile_records.specs.Nodes.{NodeFields, node_words}
 use Rattle.tile_records.specs.Edges.{EdgeFields, edge_words}
-use Rattle.road_pieces.specs.Rules.{class_of, forward_access, backward_access, node_access, names_of}
+use Rattle.road_pieces.specs.Rules.{is_routable, is_barrier, class_of, forward_access, backward_access, node_access, names_of}
 use Rattle.road_pieces.proofs.WorkedRows.{ways_rise, relations_rise}
 use Rattle.road_walks.specs.BaseEdges.{tile_numbers}
 use Rattle.tile_graph.specs.Tiles.{TileFields}
@@ -71,7 +71,7 @@ its_tiles = folder_tiles two_nodes_apart 1 tile_numbers (record { patterns = [];
 
 -- 0x3f5e82
 its_id : map (λ t. value_of t.level t.tile 0) its_tiles ≡ 4_152_962 ∷ []
-unfolding class_of forward_access backward_access node_access names_of grid_tile row_of column_of
+unfolding is_routable is_barrier class_of forward_access backward_access node_access names_of grid_tile row_of column_of
 its_id = refl
 
 -- 1, 0, 0x200000, 0x4f; and 2, 0x271000000000, 0x200001, 0x4f, where the density is 0: 11,132 centimetres are few
@@ -79,7 +79,7 @@ abbrev thin : NodeFields → NodeFields
 thin n = record n { density = 0 }
 
 node_words_are : map (λ t. map (λ n. node_words (thin n)) t.nodes) its_tiles ≡ ((1 ∷ 0 ∷ 2_097_152 ∷ 79 ∷ []) ∷ (2 ∷ 42_949_672_960_000 ∷ 2_097_153 ∷ 79 ∷ []) ∷ []) ∷ []
-unfolding node_words class_of forward_access backward_access node_access names_of grid_tile row_of column_of
+unfolding node_words is_routable is_barrier class_of forward_access backward_access node_access names_of grid_tile row_of column_of
 node_words_are = refl
 
 -- 0x23f5e82, 0x300000002b7c, 0x6004f004f, 0; and 0x3f5e82, 0x100000002b7c, 0x6004f004f, 0, where the length is 0x2b7c
@@ -87,5 +87,5 @@ abbrev long : EdgeFields → EdgeFields
 long e = record e { cm = 11_132 }
 
 edge_words_are : map (λ t. map (λ e. edge_words (long e)) t.edges) its_tiles ≡ ((37_707_394 ∷ 52_776_558_144_380 ∷ 25_774_981_199 ∷ 0 ∷ []) ∷ (4_152_962 ∷ 17_592_186_055_548 ∷ 25_774_981_199 ∷ 0 ∷ []) ∷ []) ∷ []
-unfolding edge_words class_of forward_access backward_access node_access names_of grid_tile row_of column_of
+unfolding edge_words is_routable is_barrier class_of forward_access backward_access node_access names_of grid_tile row_of column_of
 edge_words_are = refl

@@ -1,6 +1,7 @@
 -- Levels, and chains of base edges that are shortcuts.
-use Rattle.std.specs.Prelude.{◌≡◌, ◌≢◌, ◌⊎◌, ℕ, ◌≤◌, ℤ, List, length, sum_by, nat_le, if◌then◌else◌}
+use Rattle.std.specs.Prelude.{◌≡◌, ◌≢◌, ◌⊎◌, ℕ, ◌≤◌, ℤ, List, length, sum_by}
 use Rattle.osm_model.specs.declared.extract.Extract.{Extract}
+use Rattle.tile_geometry.specs.Grid.{class_level}
 use Rattle.road_pieces.specs.DirectedPiece.{DirectedPiece}
 use Rattle.road_pieces.specs.Paths.{Leads}
 use Rattle.road_pieces.specs.Modes.{ShareMode}
@@ -16,16 +17,12 @@ most_chain_edges = 65_535
 abbrev pub most_edge_cm : ℕ
 most_edge_cm = 268_435_455
 
--- the level of a class: motorway to primary on level 0, secondary and tertiary on level 1, all others on level 2
-abbrev pub level_of_class : ℕ → ℕ
-level_of_class class = if nat_le class 2 then 0 else (if nat_le class 4 then 1 else 2)
-
 -- the class and the level of a piece
 abbrev pub piece_class : Extract → DirectedPiece → ℕ
 piece_class x p = class_of (way_tags x p.way)
 
 abbrev pub piece_level : Extract → DirectedPiece → ℕ
-piece_level x p = level_of_class (piece_class x p)
+piece_level x p = class_level (piece_class x p)
 
 -- the modes that may use a piece in its direction
 abbrev pub access_of : Extract → DirectedPiece → ℕ

@@ -101,6 +101,7 @@ tells_pieces output bytes roads answer is files told =
     record {
       extract = is.extract;
       spelled = is.spelled;
+      built = is.built;
       files = files ∙ ap (λ list. (list_path output, list) ∷ []) list_is;
       told = ap pieces_told (sym list_is) ∙ (told ∙ ap (map listed) is.pieces_are);
     }

@@ -3,6 +3,7 @@ use Rattle.std.proofs.Common.{◌≡◌, ℕ, refl, sym, ap, subst, ◌∙◌, L
 use Rattle.std.specs.Str.{bytes_eq}
 use Rattle.std.proofs.lemmas.Slice.Eq.{bytes_eq-Decides}
 use Rattle.host_port.specs.Told.{Told, named}
+use Rattle.road_pieces.specs.Modes.{all_mode_bits}
 use Rattle.road_pieces.specs.Walks.{RoadWalk}
 use Rattle.road_pieces.specs.ListWalks.{PlainWalk, ListsWalks}
 use Rattle.mjolnir_cli.specs.declared.answer.Answer.{Answer}
@@ -13,6 +14,7 @@ use Rattle.mjolnir_cli.specs.Puts.{paths, PutsAll}
 use Rattle.mjolnir_cli.specs.Said.{Asks}
 use Rattle.mjolnir_cli.proofs.Stored.{named_put, puts_after}
 use Rattle.mjolnir_cli.proofs.OneAnswer.{of_asked}
+use Rattle.mjolnir_cli.proofs.BuiltRoads.{built_is_plain}
 
 none_without : (files : List (List ℕ × List ℕ)) → paths files ≡ [] → files ≡ []
 none_without [] none = refl
@@ -33,7 +35,7 @@ lists_of input output bytes answer old new law same tells found puts = record {
   list = plain_list tells.extract;
   put = named_put (list_path output) _ input bytes old new same found (subst (λ files. PutsAll files old new) tells.files puts);
   is = refl;
-  walks = λ mode one a b here there total. subst (λ pieces. RoadWalk tells.extract 79 mode a b total ↔ PlainWalk pieces a b total) (sym tells.told) (law tells.extract mode one a b here there total);
+  walks = λ mode one a b here there total. subst (λ pieces. RoadWalk tells.extract all_mode_bits mode a b total ↔ PlainWalk pieces a b total) (sym tells.told) (law tells.extract (built_is_plain tells.extract tells.built) mode one a b here there total);
 }
 
 same_path : (path : List ℕ) → bytes_eq path path ≡ true

@@ -8,4 +8,5 @@ pub mod Cutting
 pub mod Stored
 pub mod Ends
 pub mod PiecesTold
+mod BuiltRoads
 mod WorkedLists

@@ -1,9 +1,10 @@
 -- What the lines give is what the definitions name.
-use Rattle.std.proofs.Common.{◌≡◌, ℕ, zero, suc, ◌+◌, ◌<◌, ◌≤◌, refl, sym, ◌∙◌, ap, List, [], ◌∷◌, ◌++◌, length, map, get_or, drop, take, ℤ, Bool, true, false, cond, arith}
-use Rattle.std.specs.Prelude.{All, filter, sum_by, Option, Some, find, option_map, nat_lt, nat_le}
-use Rattle.std.specs.List.{flat_map, enumerate_from}
-use Rattle.std.proofs.lemmas.Bool.{cond-true, cond-false, lt-ltb, le-ltb}
-use Rattle.std.proofs.lemmas.List.{length-map, get_or_default, map-append, append-nil}
+use Rattle.std.proofs.Common.{◌≡◌, ℕ, zero, suc, ◌+◌, ◌*◌, ◌<◌, ◌≤◌, refl, sym, ◌∙◌, ap, List, [], ◌∷◌, ◌++◌, length, map, get_or, drop, take, ℤ, Bool, true, false, cond, arith}
+use Rattle.std.specs.Prelude.{All, filter, sum_by, Option, Some, find, option_map, nat_lt, nat_le, slice_get}
+use Rattle.std.specs.List.{flat_map, enumerate_from, dedup}
+use Rattle.std.specs.Ordering.{int_eq}
+use Rattle.std.proofs.lemmas.Bool.{cond-true, cond-false, lt-ltb, le-ltb, leb-true}
+use Rattle.std.proofs.lemmas.List.{length-map, length-append, get_or_default, map-append, append-nil}
 use Rattle.std.proofs.lemmas.List.Concat.{length-flat_map}
 use Rattle.std.proofs.lemmas.List.FromFn.{length-enumerate_from}
 use Rattle.std.proofs.lemmas.List.Elements.{All-head, All-tail, filter_more}
@@ -17,15 +18,16 @@ use Rattle.road_pieces.specs.declared.rows.Piece.{Piece}
 use Rattle.road_pieces.specs.declared.faults.CutFault.{CutFault}
 use Rattle.road_pieces.specs.declared.faults.CutFault.TheVariants.{TooManyPieces}
 use Rattle.road_pieces.specs.Rules.{is_routable}
-use Rattle.road_pieces.specs.Runs.{has_node, runs, way_runs, all_runs, is_junction}
+use Rattle.road_pieces.specs.Runs.{has_node, stretches, runs, way_runs, all_runs, is_junction}
 use Rattle.road_pieces.specs.Rows.{stops, spans_from, run_rows, piece_rows, junction_row, too_long, refusal}
 use Rattle.road_pieces.specs.Lines.{Line, place_of, id_at, no_node, all_lines, IsSound}
 use Rattle.road_pieces.specs.Parts.{line_rows, no_way}
+use Rattle.road_pieces.specs.PieceRows.{Drafted}
 use Rattle.road_pieces.specs.Counts.{pieces_in, pieces_of_lines, places_of_lines}
 use Rattle.road_pieces.proofs.RunLemmas.{AreThere, id_there, runs_from, kept, longer, longer_short, runs_in_one_pass}
 use Rattle.road_pieces.proofs.LineLemmas.{flat_of_lines, sum_of_lines, lines_sound}
-use Rattle.road_pieces.proofs.PartLemmas.{line_is, stops_at}
-use Rattle.road_pieces.proofs.EachLine.{sums_alike}
+use Rattle.road_pieces.proofs.PartLemmas.{line_is, stops_at, flag_is}
+use Rattle.road_pieces.proofs.EachLine.{sums_alike, sum_more, flat_more}
 
 -- places of nodes, and back
 ids_back : (nodes : List OsmNode) (run : List ℤ) → AreThere nodes run → map (id_at nodes) (map (place_of nodes) run) ≡ run
@@ -43,11 +45,6 @@ rows_are x =
 length-spans_from : (i : ℕ) (js : List ℕ) → length (spans_from i js) ≡ length js
 length-spans_from i [] = refl
 length-spans_from i (j ∷ js) = ap suc (length-spans_from j js)
-
-flag_is : (f : OsmNode → Bool) (nodes : List OsmNode) (p : ℕ) (d : OsmNode) → p < length nodes → get_or (map f nodes) p false ≡ f (get_or nodes p d)
-flag_is f [] p d h = absurd (omega arith)
-flag_is f (n ∷ nodes) zero d h = refl
-flag_is f (n ∷ nodes) (suc p) d h = flag_is f nodes p d (omega arith)
 
 stops_alike : (s t : ℕ → Bool) (P : ℕ → Type 0) → ((p : ℕ) → P p → s p ≡ t p) → (k : ℕ) (ps : List ℕ) → All P ps → stops s k ps ≡ stops t k ps
 stops_alike s t P same k [] all = refl
@@ -112,6 +109,45 @@ ones (x ∷ xs) = sum_by-cons (λ y. 1) x xs ∙ omega (arith, ones xs)
 pub as_many : (x : Extract) → length (all_lines x) ≡ length (all_runs x)
 as_many x =
     sym (ones (all_lines x)) ∙ (sum_of_lines x.nodes (λ l. 1) (λ r. 1) (λ way number run there. refl) 0 x.ways ∙ ones (all_runs x))
+
+-- and no more lines than places, since a run has two nodes or more
+kept_long : (rs : List (List ℤ)) → length (filter (λ run. nat_le 2 (length run)) rs) ≤ sum_by length (filter (λ run. nat_le 2 (length run)) rs)
+kept_long [] = omega arith
+kept_long (r ∷ rs) = by (nat_le 2 (length r)) refl (kept_long rs)
+  where
+    by : (b : Bool) → nat_le 2 (length r) ≡ b → length (filter (λ run. nat_le 2 (length run)) rs) ≤ sum_by length (filter (λ run. nat_le 2 (length run)) rs) → length (cond b (r ∷ filter (λ run. nat_le 2 (length run)) rs) (filter (λ run. nat_le 2 (length run)) rs)) ≤ sum_by length (cond b (r ∷ filter (λ run. nat_le 2 (length run)) rs) (filter (λ run. nat_le 2 (length run)) rs))
+    by true long rest =
+        let two : 2 ≤ length r = leb-true 2 (length r) long in
+        omega (arith, rest, two, sum_by-cons length r (filter (λ run. nat_le 2 (length run)) rs))
+    by false long rest = rest
+
+way_long : (nodes : List OsmNode) (way : OsmWay) → length (way_runs nodes way) ≤ sum_by length (way_runs nodes way)
+way_long nodes way = by (is_routable way.tags)
+  where
+    by : (b : Bool) → length (cond b (runs nodes way.refs) []) ≤ sum_by length (cond b (runs nodes way.refs) [])
+    by true = kept_long (map (dedup int_eq) (stretches (has_node nodes) way.refs))
+    by false = omega arith
+
+ways_long : (nodes : List OsmNode) (ways : List OsmWay) → length (flat_map (way_runs nodes) ways) ≤ sum_by length (flat_map (way_runs nodes) ways)
+ways_long nodes [] = omega arith
+ways_long nodes (way ∷ ways) =
+    omega (arith, way_long nodes way, ways_long nodes ways, length-append (way_runs nodes way) (flat_map (way_runs nodes) ways), sum_by-append length (way_runs nodes way) (flat_map (way_runs nodes) ways))
+
+pub few_lines : (x : Extract) → length (all_lines x) ≤ 20_000_000
+few_lines x = omega (arith, as_many x, ways_long x.nodes x.ways, total_ways x.nodes x.ways, x.ref_limit)
+
+-- the lines so far are cut, and gave no more than two points for each of their places, and two names each
+pub record AreCutSo (x : Extract) (lines : List Line) (now : Drafted) (i : ℕ) : Type 0 where
+  pub done : now.done ≡ flat_map (line_rows x) (take i lines)
+  pub points : now.points ≤ 2 * places_of_lines (take i lines)
+  pub named : now.named ≤ 2 * i
+
+pub one_line_more : (x : Extract) (lines : List Line) (now new : Drafted) (i : ℕ) (line : Line) → i < length lines → slice_get lines i ≡ Some line → new.done ≡ now.done ++ line_rows x line → new.points ≤ now.points + 2 * length line.places → new.named ≤ now.named + 2 → AreCutSo x lines now i → AreCutSo x lines new (i + 1)
+one_line_more x lines now new i line h is done points named s = record {
+  done = done ∙ (ap (λ l. l ++ line_rows x line) s.done ∙ flat_more (line_rows x) lines i line h is);
+  points = omega (arith, points, s.points, sum_more (λ l. length l.places) lines i line h is);
+  named = omega (arith, named, s.named);
+}
 
 -- the refusals
 pub refuse_many : (pieces : List Piece) (count : ℕ) → count ≡ length pieces → 4_000_000 < count → refusal pieces ≡ Some (TooManyPieces count)

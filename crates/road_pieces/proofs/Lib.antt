@@ -27,5 +27,7 @@ mod CutLemmas
 pub mod Agree
 mod RowLengths
 mod RowPieces
+mod PlainRoads
 mod ListAgree
 pub mod WorkedRows
+mod WorkedRoads

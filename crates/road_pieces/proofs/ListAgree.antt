@@ -13,11 +13,12 @@ use Rattle.road_pieces.specs.Pieces.{IsPiece, IsKeptJunction, piece_start, piece
 use Rattle.road_pieces.specs.Lengths.{piece_cm}
 use Rattle.road_pieces.specs.Rows.{piece_rows}
 use Rattle.road_pieces.specs.Walks.{MayRide, RoadWalk, PieceWalk}
+use Rattle.road_pieces.specs.PlainExtracts.{IsPlainExtract}
 use Rattle.road_pieces.specs.ListWalks.{ListedPiece, listed, Ride, ride_start, ride_end, IsRide, PlainWalk, ListsWalks}
 use Rattle.road_pieces.proofs.Members.{IsIn, in_from_contains, contains_from_in, in_map, of_map}
 use Rattle.road_pieces.proofs.RowLengths.{directed_cm}
 use Rattle.road_pieces.proofs.RowPieces.{IsRow, RowPlace, piece_of_row, place_of_row, row_of_piece, piece_from}
-use Rattle.road_pieces.proofs.Fits.{open_to_all, none_closed, none_forbidden}
+use Rattle.road_pieces.proofs.PlainRoads.{open_to_all, none_closed, none_forbidden}
 use Rattle.road_pieces.proofs.Agree.{same_walks}
 
 -- the pieces of an extract as a list tells them
@@ -73,7 +74,7 @@ any_follows : {E : Type 0} (Next : E → E → Type 0) (e : E) (es : List E) →
 any_follows Next e [] may = tt
 any_follows Next e (f ∷ es) may = may f
 
-module _ (x : Extract) (mode : ℕ) (one : IsMode mode) where
+module _ (x : Extract) (plain : IsPlainExtract x) (mode : ℕ) (one : IsMode mode) where
   abbrev PiecesLead : ℤ → List DirectedPiece → ℤ → Type 0
   PiecesLead a ps b = Leads (MayRide x all_mode_bits mode) (piece_start x) (piece_end x) (λ p q. Passes x mode (piece_end x p)) a ps b
 
@@ -97,12 +98,12 @@ module _ (x : Extract) (mode : ℕ) (one : IsMode mode) where
       let (p, alike) = piece_of x r rides in
       let (ps, (leads, sum)) = pieces_from rs (ride_end r) b lead in
       let cm = sum_by-cons (piece_cm x) p ps ∙ (ap (λ n. n + sum_by (piece_cm x) ps) (sym alike.long) ∙ (ap (λ n. r.piece.cm + n) sum ∙ sym (sum_by-cons (λ ride. ride.piece.cm) r rs))) in
-      (p ∷ ps, ((open_to_all x mode p one alike.exists, sym alike.starts ∙ begins, any_follows (λ p q. Passes x mode (piece_end x p)) p ps (λ q. none_closed x mode (piece_end x p) one), subst (λ n. PiecesLead n ps b) alike.ends leads), cm))
+      (p ∷ ps, ((open_to_all x plain mode p one alike.exists, sym alike.starts ∙ begins, any_follows (λ p q. Passes x mode (piece_end x p)) p ps (λ q. none_closed x plain mode (piece_end x p) one), subst (λ n. PiecesLead n ps b) alike.ends leads), cm))
 
   kept : (n : ℤ) → is_junction x n ≡ true → IsKeptJunction x all_mode_bits n
   kept n here =
       let (p, (is, starts)) = piece_from x n here in
-      (p, is, (open_to_all x mode p one is).may.0, starts)
+      (p, is, (open_to_all x plain mode p one is).may.0, starts)
 
   to_list : (a b : ℤ) (total : ℕ) → RoadWalk x all_mode_bits mode a b total → PlainWalk (told_rows x) a b total
   to_list a b total w =
@@ -118,9 +119,9 @@ module _ (x : Extract) (mode : ℕ) (one : IsMode mode) where
         ends = kept b there;
         pieces = ps;
         leads = leads;
-        permitted = λ pattern is stands. none_forbidden x mode pattern one is;
+        permitted = λ pattern is stands. none_forbidden x plain mode pattern is;
         length_is = sum ∙ w.length_is;
       })
 
 pub lists_walks : ListsWalks
-lists_walks x mode one a b here there total = (to_list x mode one a b total, from_list x mode one a b total here there)
+lists_walks x plain mode one a b here there total = (to_list x plain mode one a b total, from_list x plain mode one a b total here there)

@@ -1,10 +1,16 @@
 -- Names stay as they are where texts are added after theirs.
 use Rattle.std.proofs.Common.{◌≡◌, ℕ, ◌-◌, ◌<◌, ◌≤◌, refl, sym, ◌∙◌, ap, subst, List, [], ◌∷◌, ◌++◌, length, map, take, drop, get_or, arith}
-use Rattle.std.specs.Prelude.{Result, Ok, Err, OnErr, All, slice_range, slice_get, Some}
+use Rattle.std.specs.Prelude.{Result, Ok, Err, OnErr, All, slice_range, slice_get, Option, Some, None, Bool, true, false, codes, cond}
+use Rattle.std.specs.List.{dedup}
+use Rattle.std.specs.Str.{bytes_eq}
 use Rattle.std.proofs.lemmas.List.{drop-append-le, take-append-le, length-drop, length-append, map-append, drop_at, take_all, get_or_append_left, append-nil, take-map, drop-map, get_or-map, length-map}
 use Rattle.std.proofs.lemmas.List.Elements.{All-head, All-tail, All-push}
 use Rattle.std.proofs.lemmas.Option.{get_or_from_slice_get, slice_get_within}
 use Rattle.osm_model.specs.Grew.{Grew}
+use Rattle.osm_model.specs.declared.tags.Tag.{Tag}
+use Rattle.osm_model.specs.Tags.{value_of}
+use Rattle.way_tags.specs.Names.{shown_text}
+use Rattle.road_pieces.specs.Rules.{names_of}
 use Rattle.road_pieces.specs.NameRows.{text_of, AreNumbers}
 
 pub longer : {X : Type 0} (a b : List X) → Grew a b → length a ≤ length b
@@ -44,3 +50,28 @@ part_is old texts texts' numbers from to e same =
 -- the name at a place
 pub name_at : (old texts : List (List ℕ)) (numbers : List ℕ) (i : ℕ) (d : List ℕ) → map (text_of texts) numbers ≡ old → i < length numbers → get_or old i d ≡ text_of texts (get_or numbers i 0)
 name_at old texts numbers i d e l = ap (λ o. get_or o i d) (sym e) ∙ get_or-map (text_of texts) numbers i 0 d l
+
+-- a way has no more than two names
+few_by : (one two : List (List ℕ)) → length one ≤ 1 → length two ≤ 1 → length (dedup bytes_eq (one ++ two)) ≤ 2
+few_by [] [] h l = omega arith
+few_by [] (b ∷ []) h l = omega arith
+few_by (a ∷ []) [] h l = omega arith
+few_by (a ∷ []) (b ∷ []) h l = by (bytes_eq b a)
+  where
+    by : (same : Bool) → length (cond same (a ∷ []) (a ∷ (b ∷ []))) ≤ 2
+    by true = omega arith
+    by false = omega arith
+few_by (a ∷ (c ∷ one)) two h l = absurd (omega arith)
+few_by one (b ∷ (d ∷ two)) h l = absurd (omega arith)
+
+shown_once : (text : Option (List ℕ)) → length (shown_text text) ≤ 1
+shown_once None = omega arith
+shown_once (Some []) = omega arith
+shown_once (Some (byte ∷ bytes)) = omega arith
+
+few_names : (tags : List Tag) → length (names_of tags) ≤ 2
+unfolding names_of
+few_names tags = few_by (shown_text (value_of (codes "name") tags)) (shown_text (value_of (codes "ref") tags)) (shown_once (value_of (codes "name") tags)) (shown_once (value_of (codes "ref") tags))
+
+pub named_few : (names : List (List ℕ)) (tags : List Tag) → names ≡ names_of tags → length names ≤ 2
+named_few names tags e = omega (arith, ap length e, few_names tags)

@@ -22,6 +22,7 @@ use Rattle.road_pieces.specs.Lengths.{point_of, point}
 use Rattle.road_pieces.specs.Rows.{stops, spans, spans_from, course, course_cm, piece_row, run_rows}
 use Rattle.road_pieces.specs.Lines.{Line, no_node, id_at, IsSound}
 use Rattle.road_pieces.specs.Parts.{point_at, part_row, line_rows, no_way}
+use Rattle.road_pieces.specs.PieceRows.{Drafted}
 use Rattle.road_pieces.proofs.NodePlaces.{place_is}
 
 place_of_placed : (n : OsmNode) → IsPlaced n → IsPlace (point_of n)
@@ -58,7 +59,12 @@ part-map f xs a b = ap (take (b - a)) (drop-map f a xs) ∙ take-map f (b - a) (
 part_at : (xs : List ℕ) (a b k d : ℕ) → a + k < b → get_or (slice_range xs a b) k d ≡ get_or xs (a + k) d
 part_at xs a b k d h = get_or-take (b - a) (drop a xs) k d (omega arith) ∙ get_or-drop a xs k d
 
-part_inside : (Is : ℕ → Type 0) (xs : List ℕ) (a b : ℕ) → b ≤ length xs → All Is xs → All Is (slice_range xs a b)
+pub flag_is : (f : OsmNode → Bool) (nodes : List OsmNode) (p : ℕ) (d : OsmNode) → p < length nodes → get_or (map f nodes) p false ≡ f (get_or nodes p d)
+flag_is f [] p d h = absurd (omega arith)
+flag_is f (n ∷ nodes) zero d h = refl
+flag_is f (n ∷ nodes) (suc p) d h = flag_is f nodes p d (omega arith)
+
+pub part_inside : (Is : ℕ → Type 0) (xs : List ℕ) (a b : ℕ) → b ≤ length xs → All Is xs → All Is (slice_range xs a b)
 part_inside Is xs a b h all =
     λ k d l. subst Is (sym (part_at xs a b k d (omega (arith, length-take (b - a) (drop a xs), length-drop a xs)))) (all (a + k) d (omega (arith, length-take (b - a) (drop a xs), length-drop a xs)))
 
@@ -146,29 +152,63 @@ rest_step x line way piece from to h =
     step_by true = refl
     step_by false = refl
 
--- the pieces found, with those of the rest of the line
-pub record IsCut (x : Extract) (line : Line) (way : OsmWay) (before pieces : List Piece) (piece from to : ℕ) : Type 0 where
-  pub done : pieces ++ rest_rows x line way piece from to ≡ before ++ rest_rows x line way 0 0 1
+-- The draft so far: the pieces found, with those of the rest of the line, are those of the line behind those before.
+-- Each place up to the last junction has given one point, and each piece one more; the names are those of the way.
+pub record IsCut (x : Extract) (line : Line) (way : OsmWay) (before now : Drafted) (piece from to : ℕ) : Type 0 where
+  pub done : now.done ++ rest_rows x line way piece from to ≡ before.done ++ rest_rows x line way 0 0 1
   pub low : from < to
   pub few : piece < to
+  pub inside : from ≤ length line.places
+  pub points : now.points ≤ before.points + (from + piece)
+  pub pieces : piece ≤ from
+  pub named : now.named ≡ before.named
+  pub names : now.names ≡ names_of way.tags
 
-pub cut_first : (x : Extract) (line : Line) (way : OsmWay) (before : List Piece) → IsCut x line way before before 0 0 1
-cut_first x line way before = record { done = refl; low = omega arith; few = omega arith }
+pub cut_first : (x : Extract) (line : Line) (way : OsmWay) (before : Drafted) → before.names ≡ names_of way.tags → IsCut x line way before before 0 0 1
+cut_first x line way before names = record {
+  done = refl;
+  low = omega arith;
+  few = omega arith;
+  inside = omega arith;
+  points = omega arith;
+  pieces = omega arith;
+  named = refl;
+  names = names;
+}
 
-pub cut_here : (x : Extract) (line : Line) (way : OsmWay) (before pieces new : List Piece) (piece from to : ℕ) → to < length line.places → stops_at x (get_or line.places to 0) ≡ true → new ≡ pieces ++ part x line way (piece, (from, to)) ∷ [] → IsCut x line way before pieces piece from to → IsCut x line way before new (piece + 1) to (to + 1)
-cut_here x line way before pieces new piece from to h here made s = record {
-  done = ap (λ l. l ++ rest_rows x line way (piece + 1) to (to + 1)) made ∙ (append_assoc pieces (part x line way (piece, (from, to)) ∷ []) (rest_rows x line way (piece + 1) to (to + 1)) ∙ (ap (λ l. pieces ++ l) (sym (rest_step x line way piece from to h ∙ cond-true _ _ _ here)) ∙ s.done));
+pub cut_here : (x : Extract) (line : Line) (way : OsmWay) (before now new : Drafted) (piece from to : ℕ) → to < length line.places → stops_at x (get_or line.places to 0) ≡ true → new.done ≡ now.done ++ part x line way (piece, (from, to)) ∷ [] → new.points ≡ now.points + length (slice_range line.places from (to + 1)) → new.named ≡ now.named → new.names ≡ now.names → IsCut x line way before now piece from to → IsCut x line way before new (piece + 1) to (to + 1)
+cut_here x line way before now new piece from to h here made points named names s = record {
+  done = ap (λ l. l ++ rest_rows x line way (piece + 1) to (to + 1)) made ∙ (append_assoc now.done (part x line way (piece, (from, to)) ∷ []) (rest_rows x line way (piece + 1) to (to + 1)) ∙ (ap (λ l. now.done ++ l) (sym (rest_step x line way piece from to h ∙ cond-true _ _ _ here)) ∙ s.done));
   low = omega arith;
   few = omega (arith, s.few);
+  inside = omega arith;
+  points = omega (arith, points, s.points, s.low, part_length line.places from (to + 1) (omega arith));
+  pieces = omega (arith, s.pieces, s.low);
+  named = named ∙ s.named;
+  names = names ∙ s.names;
 }
 
-pub cut_past : (x : Extract) (line : Line) (way : OsmWay) (before pieces : List Piece) (piece from to : ℕ) → to < length line.places → stops_at x (get_or line.places to 0) ≡ false → IsCut x line way before pieces piece from to → IsCut x line way before pieces piece from (to + 1)
-cut_past x line way before pieces piece from to h here s = record {
-  done = ap (λ l. pieces ++ l) (sym (rest_step x line way piece from to h ∙ cond-false _ _ _ here)) ∙ s.done;
+pub cut_past : (x : Extract) (line : Line) (way : OsmWay) (before now : Drafted) (piece from to : ℕ) → to < length line.places → stops_at x (get_or line.places to 0) ≡ false → IsCut x line way before now piece from to → IsCut x line way before now piece from (to + 1)
+cut_past x line way before now piece from to h here s = record {
+  done = ap (λ l. now.done ++ l) (sym (rest_step x line way piece from to h ∙ cond-false _ _ _ here)) ∙ s.done;
   low = omega (arith, s.low);
   few = omega (arith, s.few);
+  inside = s.inside;
+  points = s.points;
+  pieces = s.pieces;
+  named = s.named;
+  names = s.names;
 }
 
-pub cut_all : (x : Extract) (line : Line) (way : OsmWay) (before pieces : List Piece) (piece from to : ℕ) → length line.places ≤ to → IsSound x line → way ≡ get_or x.ways line.way way → IsCut x line way before pieces piece from to → pieces ≡ before ++ line_rows x line
-cut_all x line way before pieces piece from to h sound is s =
-    sym (append-nil pieces) ∙ (ap (λ l. pieces ++ map (part x line way) (enumerate_from piece (spans_from from (stops (stops_at x) to l)))) (sym (drop_all to line.places h)) ∙ (s.done ∙ ap (λ l. before ++ l) (sym (line_is x line way sound) ∙ ap (λ w. run_rows x w line.number (map (id_at x.nodes) line.places)) (is ∙ get_or_default x.ways line.way way no_way sound.way))))
+pub cut_all : (x : Extract) (line : Line) (way : OsmWay) (before now : Drafted) (piece from to : ℕ) → length line.places ≤ to → IsSound x line → way ≡ get_or x.ways line.way way → IsCut x line way before now piece from to → now.done ≡ before.done ++ line_rows x line
+cut_all x line way before now piece from to h sound is s =
+    sym (append-nil now.done) ∙ (ap (λ l. now.done ++ map (part x line way) (enumerate_from piece (spans_from from (stops (stops_at x) to l)))) (sym (drop_all to line.places h)) ∙ (s.done ∙ ap (λ l. before.done ++ l) (sym (line_is x line way sound) ∙ ap (λ w. run_rows x w line.number (map (id_at x.nodes) line.places)) (is ∙ get_or_default x.ways line.way way no_way sound.way))))
+
+-- after one more place, where the ways of an `if` join
+pub cut_on : (x : Extract) (line : Line) (way : OsmWay) (before now joined : Drafted) (piece from n f to : ℕ) → joined ≡ now → n ≡ piece → f ≡ from → IsCut x line way before now piece from to → IsCut x line way before joined n f to
+cut_on x line way before now joined piece from n f to d e g s =
+    subst (λ j. IsCut x line way before j n f to) (sym d) (subst (λ k. IsCut x line way before now k f to) (sym e) (subst (λ k. IsCut x line way before now piece k to) (sym g) s))
+
+-- what the test of a place says
+pub stop_is : (x : Extract) (flags : List Bool) (p : ℕ) (b : Bool) → flags ≡ map (λ n. is_junction x n.id) x.nodes → p < length x.nodes → get_or flags p false ≡ b → stops_at x p ≡ b
+stop_is x flags p b e h is = sym (ap (λ l. get_or l p false) e ∙ flag_is (λ n. is_junction x n.id) x.nodes p no_node h) ∙ is

@@ -9,7 +9,7 @@ use Rattle.road_pieces.specs.declared.rows.Piece.{Piece}
 use Rattle.road_pieces.specs.declared.pieces.PieceHead.{PieceHead}
 use Rattle.road_pieces.specs.declared.pieces.PieceRow.{PieceRow}
 use Rattle.road_pieces.specs.PieceRows.{headed, piece_of, IsWithin, AreWithin}
-use Rattle.osm_model.proofs.TextLemmas.{part_append, part_end}
+use Rattle.osm_model.proofs.TextLemmas.{part_append, part_end, grew_none}
 use Rattle.road_pieces.proofs.NameLemmas.{longer}
 
 pieces_append : (points more : List Point) (names most : List (List ℕ)) (rows : List PieceRow) → AreWithin points names rows → map (piece_of (points ++ more) (names ++ most)) rows ≡ map (piece_of points names) rows
@@ -26,14 +26,15 @@ pieces_kept old points points' names names' rows rows' e kept g h same =
     ap (map (piece_of points' names')) same ∙ (ap (λ p. map (piece_of p names') rows) g.is ∙ (ap (λ n. map (piece_of (points ++ g.more) n) rows) h.is ∙
     (pieces_append points g.more names h.more rows kept ∙ e)))
 
--- a piece behind the others
-pub piece_behind : (old : List Piece) (points points' shape : List Point) (names names' own : List (List ℕ)) (rows rows' : List PieceRow) (head : PieceHead) (cm : ℕ) → map (piece_of points names) rows ≡ old → AreWithin points names rows → points' ≡ points ++ shape → names' ≡ names ++ own → rows' ≡ rows ++ record { head = head; cm = cm; shape_from = length points; shape_to = length points'; names_from = length names; names_to = length names' } ∷ [] → map (piece_of points' names') rows' ≡ old ++ headed head shape cm own ∷ []
-piece_behind old points points' shape names names' own rows rows' head cm e kept g h pushed =
-    let row : PieceRow = record { head = head; cm = cm; shape_from = length points; shape_to = length points'; names_from = length names; names_to = length names' } in
-    ap (map (piece_of points' names')) pushed ∙ (map-append (piece_of points' names') rows (row ∷ []) ∙
-    (ap (λ l. l ++ piece_of points' names' row ∷ []) (pieces_kept old points points' names names' rows rows e kept (record { more = shape; is = g }) (record { more = own; is = h }) refl) ∙
-    (ap (λ s. old ++ headed head s cm (slice_range names' (length names) (length names')) ∷ []) (ap (λ n. slice_range n (length points) (length n)) g ∙ part_end points shape) ∙
-    ap (λ n. old ++ headed head shape cm n ∷ []) (ap (λ n. slice_range n (length names) (length n)) h ∙ part_end names own))))
+-- a piece behind the others, whose names stand among those that are there
+pub piece_behind : (old : List Piece) (points points' shape : List Point) (names own : List (List ℕ)) (rows rows' : List PieceRow) (head : PieceHead) (cm a b from to : ℕ) → map (piece_of points names) rows ≡ old → AreWithin points names rows → points' ≡ points ++ shape → a ≡ length points → b ≡ length points' → slice_range names from to ≡ own → rows' ≡ rows ++ record { head = head; cm = cm; shape_from = a; shape_to = b; names_from = from; names_to = to } ∷ [] → map (piece_of points' names) rows' ≡ old ++ headed head shape cm own ∷ []
+piece_behind old points points' shape names own rows rows' head cm a b from to e kept g p q named pushed =
+    let row : PieceRow = record { head = head; cm = cm; shape_from = a; shape_to = b; names_from = from; names_to = to } in
+    let shape_is : slice_range points' a b ≡ shape =
+    (λ i. slice_range points' (p i) (q i)) ∙ (ap (λ l. slice_range l (length points) (length l)) g ∙ part_end points shape) in
+    ap (map (piece_of points' names)) pushed ∙ (map-append (piece_of points' names) rows (row ∷ []) ∙
+    (ap (λ l. l ++ piece_of points' names row ∷ []) (pieces_kept old points points' names names rows rows e kept (record { more = shape; is = g }) (grew_none names) refl) ∙
+    (ap (λ s. old ++ headed head s cm (slice_range names from to) ∷ []) shape_is ∙ ap (λ n. old ++ headed head shape cm n ∷ []) named)))
 
 -- the rows stay within the points and the names
 wider : (points points' names names' : ℕ) (row : PieceRow) → points ≤ points' → names ≤ names' → IsWithin points names row → IsWithin points' names' row
@@ -56,8 +57,3 @@ within_more points points' names names' rows rows' row kept g h pushed here =
 pub tail_is : {X : Type 0} (xs more ys zs : List X) (n : ℕ) → n ≡ length xs → ys ≡ xs ++ more → zs ≡ ys → slice_range zs n (length zs) ≡ more
 tail_is xs more ys zs n at e f =
     ap (λ l. slice_range l n (length l)) (f ∙ e) ∙ (ap (λ k. slice_range (xs ++ more) k (length (xs ++ more))) at ∙ part_end xs more)
-
--- a row by the lengths of the lists
-pub row_is : (rows rows' : List PieceRow) (head : PieceHead) (cm a b u v a' b' u' v' : ℕ) → a ≡ a' → b ≡ b' → u ≡ u' → v ≡ v' → rows' ≡ rows ++ record { head = head; cm = cm; shape_from = a; shape_to = b; names_from = u; names_to = v } ∷ [] → rows' ≡ rows ++ record { head = head; cm = cm; shape_from = a'; shape_to = b'; names_from = u'; names_to = v' } ∷ []
-row_is rows rows' head cm a b u v a' b' u' v' p q r s pushed =
-    pushed ∙ (λ i. rows ++ record { head = head; cm = cm; shape_from = p i; shape_to = q i; names_from = r i; names_to = s i } ∷ [])

@@ -30,7 +30,7 @@ use Rattle.road_pieces.proofs.Spans.{IsSpan, stops_by, stops_are, sound, complet
 use Rattle.road_pieces.proofs.RowLengths.{up_cm, course_cm_is}
 
 -- the way with an id is the only one, since ways are in order of id
-found_way : (x : Extract) (w : OsmWay) → IsIn x.ways w → find (λ v. int_eq v.id w.id) x.ways ≡ Some w
+pub found_way : (x : Extract) (w : OsmWay) → IsIn x.ways w → find (λ v. int_eq v.id w.id) x.ways ≡ Some w
 found_way x w h =
     let (k, (inside, is)) = at_in x.ways w h in
     let place = position_or_len_is (λ v. int_eq v.id w.id) x.ways k w (omega arith)
@@ -43,11 +43,11 @@ run_is x w number h =
     ap (λ o. get_or (option_map_or (way_runs x.nodes) o []) number []) (found_way x w h)
 
 -- a run that isn't empty is one of a way
-record IsOf (x : Extract) (id : ℤ) (number : ℕ) : Type 0 where
-  way : OsmWay
-  there : IsIn x.ways way
-  same_id : way.id ≡ id
-  inside : number < length (way_runs x.nodes way)
+pub record IsOf (x : Extract) (id : ℤ) (number : ℕ) : Type 0 where
+  pub way : OsmWay
+  pub there : IsIn x.ways way
+  pub same_id : way.id ≡ id
+  pub inside : number < length (way_runs x.nodes way)
 
 find_cases : (p : OsmWay → Bool) (ways : List OsmWay) → (find p ways ≡ None) ⊎ ((w : OsmWay) × (IsIn ways w × ((p w ≡ true) × (find p ways ≡ Some w))))
 find_cases p [] = inl refl
@@ -58,7 +58,7 @@ find_cases p (w ∷ ways) = by (p w) refl (find_cases p ways)
     by false e (inl without) = inl without
     by false e (inr (v, (is, (passes, found)))) = inr (v, (inr is, (passes, found)))
 
-is_of : (x : Extract) (id : ℤ) (number : ℕ) → 0 < length (run x id number) → IsOf x id number
+pub is_of : (x : Extract) (id : ℤ) (number : ℕ) → 0 < length (run x id number) → IsOf x id number
 is_of x id number some =
     elim (find_cases (λ v. int_eq v.id id) x.ways) [
       | inl without ↦ absurd (has_none number (subst (λ o. 0 < length (get_or (option_map_or (way_runs x.nodes) o []) number [])) without some))

@@ -11,6 +11,7 @@ use Rattle.osm_model.specs.declared.ways.OsmWay.{OsmWay}
 use Rattle.osm_model.specs.declared.extract.Extract.{Extract}
 use Rattle.osm_model.specs.OsmNode.{IsPlaced}
 use Rattle.osm_model.specs.Extract.{NodesRise, WaysRise, RelationsRise, refs_in, tags_in}
+use Rattle.road_pieces.specs.Rules.{is_routable, is_barrier}
 use Rattle.road_pieces.specs.Runs.{all_runs}
 use Rattle.road_pieces.specs.Rows.{piece_rows, junction_rows, missing_refs}
 
@@ -41,13 +42,13 @@ nodes_rise id (suc count) =
 low : (n : ℕ) → neg_ℤ (pos n) ≤ℤ pos 0
 low n = omega (arith, ints)
 
-the_node_placed : (id : ℕ) → IsPlaced (the_node id)
-the_node_placed id =
+pub placed_node : (id : ℕ) → IsPlaced (the_node id)
+placed_node id =
     record { from_south = low 900_000_000; to_north = omega (arith, ints); from_west = low 1_800_000_000; to_east = omega (arith, ints) }
 
 pub placed : (id count : ℕ) → All IsPlaced (nodes_from id count)
 placed id zero = All-nil IsPlaced
-placed id (suc count) = All-cons IsPlaced (the_node id) (nodes_from (id + 1) count) (the_node_placed id) (placed (id + 1) count)
+placed id (suc count) = All-cons IsPlaced (the_node id) (nodes_from (id + 1) count) (placed_node id) (placed (id + 1) count)
 
 pub ways_rise : (way : OsmWay) → WaysRise (way ∷ [])
 ways_rise way = λ i j d h l. absurd (omega arith)
@@ -104,9 +105,11 @@ abbrev pub lasso : Extract
 lasso = small 4 (1 ∷ 2 ∷ 3 ∷ 4 ∷ 2 ∷ []) (lit≤ tt) (lit≤ tt)
 
 lasso_crossings : crossings lasso ≡ pos 1 ∷ pos 2 ∷ []
+unfolding is_routable is_barrier
 lasso_crossings = refl
 
 lasso_pieces : outline lasso ≡ ((0, 0), (pos 1, pos 2)) ∷ ((0, 1), (pos 2, pos 2)) ∷ []
+unfolding is_routable is_barrier
 lasso_pieces = refl
 
 -- refs 1, 1, 2: the run 1, 2
@@ -114,6 +117,7 @@ abbrev pub twice : Extract
 twice = small 2 (1 ∷ 1 ∷ 2 ∷ []) (lit≤ tt) (lit≤ tt)
 
 twice_runs : all_runs twice ≡ (pos 1 ∷ pos 2 ∷ []) ∷ []
+unfolding is_routable is_barrier
 twice_runs = refl
 
 -- refs 1, 1: no run
@@ -121,6 +125,7 @@ abbrev pub alone : Extract
 alone = small 1 (1 ∷ 1 ∷ []) (lit≤ tt) (lit≤ tt)
 
 alone_runs : all_runs alone ≡ []
+unfolding is_routable is_barrier
 alone_runs = refl
 
 -- refs 1, 2, 99, 3, 4 without node 99: two runs, four junctions, two pieces, one missing ref
@@ -128,15 +133,19 @@ abbrev pub clipped : Extract
 clipped = small 4 (1 ∷ 2 ∷ 99 ∷ 3 ∷ 4 ∷ []) (lit≤ tt) (lit≤ tt)
 
 clipped_runs : all_runs clipped ≡ (pos 1 ∷ pos 2 ∷ []) ∷ (pos 3 ∷ pos 4 ∷ []) ∷ []
+unfolding is_routable is_barrier
 clipped_runs = refl
 
 clipped_crossings : crossings clipped ≡ pos 1 ∷ pos 2 ∷ pos 3 ∷ pos 4 ∷ []
+unfolding is_routable is_barrier
 clipped_crossings = refl
 
 clipped_pieces : outline clipped ≡ ((0, 0), (pos 1, pos 2)) ∷ ((1, 0), (pos 3, pos 4)) ∷ []
+unfolding is_routable is_barrier
 clipped_pieces = refl
 
 clipped_missing : missing_refs clipped ≡ 1
+unfolding is_routable is_barrier
 clipped_missing = refl
 
 -- refs 1, 2, 3, 1, 4, 5, 1: one junction and two loops
@@ -144,7 +153,9 @@ abbrev pub loops : Extract
 loops = small 5 (1 ∷ 2 ∷ 3 ∷ 1 ∷ 4 ∷ 5 ∷ 1 ∷ []) (lit≤ tt) (lit≤ tt)
 
 loops_crossings : crossings loops ≡ pos 1 ∷ []
+unfolding is_routable is_barrier
 loops_crossings = refl
 
 loops_pieces : outline loops ≡ ((0, 0), (pos 1, pos 1)) ∷ ((0, 1), (pos 1, pos 1)) ∷ []
+unfolding is_routable is_barrier
 loops_pieces = refl

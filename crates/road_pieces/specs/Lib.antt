@@ -12,6 +12,8 @@ pub mod Turns
 pub mod Matches
 pub mod Walks
 pub mod Rows
+pub mod RoadsOf
+pub mod PlainExtracts
 pub mod ListWalks
 pub mod Lines
 pub mod Heads

@@ -8,6 +8,7 @@ use Rattle.road_pieces.specs.Paths.{Leads}
 use Rattle.road_pieces.specs.Runs.{is_junction}
 use Rattle.road_pieces.specs.Rows.{piece_rows}
 use Rattle.road_pieces.specs.Walks.{RoadWalk}
+use Rattle.road_pieces.specs.PlainExtracts.{IsPlainExtract}
 
 -- a piece as a list tells it: where it starts, where it ends, and its length in centimetres
 pub record ListedPiece : Type 0 where
@@ -40,7 +41,7 @@ pub record PlainWalk (pieces : List ListedPiece) (a b : ℤ) (total : ℕ) : Typ
   pub leads : Leads (IsRide pieces) ride_start ride_end (λ ride next. ⊤) a rides b
   pub length_is : sum_by (λ ride. ride.piece.cm) rides ≡ total
 
--- The law of listed pieces: where all modes are asked, the roads, walked by single segments, have between two
--- junctions exactly the walks that their pieces have, told by starts, ends and lengths.
+-- The law of listed pieces: where all modes are asked, the roads of a plain extract, walked by single segments, have
+-- between two junctions exactly the walks that their pieces have, told by starts, ends and lengths.
 abbrev pub ListsWalks : Type 0
-ListsWalks = (x : Extract) (mode : ℕ) → IsMode mode → (a b : ℤ) → is_junction x a ≡ true → is_junction x b ≡ true → (total : ℕ) → RoadWalk x all_mode_bits mode a b total ↔ PlainWalk (map listed (piece_rows x)) a b total
+ListsWalks = (x : Extract) → IsPlainExtract x → (mode : ℕ) → IsMode mode → (a b : ℤ) → is_junction x a ≡ true → is_junction x b ≡ true → (total : ℕ) → RoadWalk x all_mode_bits mode a b total ↔ PlainWalk (map listed (piece_rows x)) a b total

@@ -1,7 +1,11 @@
 -- What turn restrictions forbid: matches, and the patterns of the lists of steps that are forbidden.
-use Rattle.std.specs.Prelude.{◌≡◌, ◌≢◌, ℕ, ◌≤◌, ℤ, Bool, true, false, not, List, [], ◌∷◌, ◌++◌, length, All}
+use Rattle.std.specs.Prelude.{◌≡◌, ◌≢◌, ℕ, ◌≤◌, ℤ, Bool, true, false, not, List, [], ◌∷◌, ◌++◌, length, map, All}
 use Rattle.std.specs.List.{flat_map, Contains}
 use Rattle.osm_model.specs.declared.extract.Extract.{Extract}
+use Rattle.osm_restrictions.specs.declared.rows.TurnRow.{TurnRow}
+use Rattle.osm_restrictions.specs.declared.rows.Via.{Via}
+use Rattle.osm_restrictions.specs.declared.rows.Via.TheVariants as vias
+use Rattle.osm_restrictions.specs.Rows.{rows_of_turns}
 use Rattle.road_pieces.specs.declared.steps.Step.{Step}
 use Rattle.road_pieces.specs.DirectedPiece.{DirectedPiece}
 use Rattle.road_pieces.specs.Modes.{ShareMode}
@@ -26,10 +30,24 @@ pub record TurnRule : Type 0 where
   pub to : List ℤ
   pub modes : ℕ
 
--- the rows of the turn restrictions of an extract. Today there are none: an extract with one isn't built. No proof but
--- those of `proofs/Fits.antt` looks into this.
+-- what a row of turns says, in these words
+abbrev pub through : Via → TurnVia
+through (vias.Node node) = via_node node
+through (vias.Ways ways) = via_ways ways
+
+abbrev pub rule_of : TurnRow → TurnRule
+rule_of row = record {
+  only = row.only;
+  u_turn = row.u_turn;
+  from = row.from;
+  via = through row.via;
+  to = row.to;
+  modes = row.modes;
+}
+
+-- the turn restrictions of an extract: its rows of turns. No proof but that of `proofs/PlainRoads.antt` looks into this.
 unfoldable pub turn_rules : Extract → List TurnRule
-turn_rules x = []
+turn_rules x = map rule_of (rows_of_turns x)
 
 -- one or more successive segments of one run of a way in one direction
 pub record IsStretch (x : Extract) (way : ℤ) (part : List Step) : Type 0 where

@@ -41,3 +41,25 @@ pub record IsWithin (points names : ℕ) (row : PieceRow) : Type 0 where
 
 abbrev pub AreWithin : List Point → List (List ℕ) → List PieceRow → Type 0
 AreWithin points names rows = All (IsWithin (length points) (length names)) rows
+
+-- pieces that are made one after the other: how many points and names they have in all, and the names of the pieces
+-- that come next
+pub record Drafted : Type 0 where
+  pub done : List Piece
+  pub points : ℕ
+  pub named : ℕ
+  pub names : List (List ℕ)
+
+abbrev pub drafted : List Point → List (List ℕ) → List PieceRow → ℕ → ℕ → Drafted
+drafted points names rows from to = record {
+  done = map (piece_of points names) rows;
+  points = length points;
+  named = length names;
+  names = slice_range names from to;
+}
+
+-- the rows, and the names of those that come next, lie within the points and names
+pub record AreDrafted (points : List Point) (names : List (List ℕ)) (rows : List PieceRow) (from to : ℕ) : Type 0 where
+  pub within : AreWithin points names rows
+  pub rises : from ≤ to
+  pub inside : to ≤ length names

@@ -1,42 +1,43 @@
--- What tags say of roads. Today a road is a way with `highway=residential`, each road is open to each mode,
--- and no node is closed; an extract with another kept tag isn't built. Where more is built, the definitions
--- here say more, and what stands on them stays.
-use Rattle.std.specs.Prelude.{ℕ, ℤ, Bool, true, false, List, [], not, codes, find, bit_or, if◌then◌else◌}
+-- What tags say of roads, by the tables of `way_tags` and of nothing else. The words that the tables decide are closed:
+-- what stands on them knows no more of them than their names, but for `proofs/Fits.antt`, `proofs/Barriers.antt`,
+-- `proofs/PlainRoads.antt` and rows that are worked out.
+use Rattle.std.specs.Prelude.{ℕ, ℤ, Bool, true, false, List, [], find, is_some, unwrap_or, bit_or, if◌then◌else◌}
 use Rattle.std.specs.Option.{option_map_or}
 use Rattle.std.specs.Ordering.{int_eq}
-use Rattle.std.specs.Str.{bytes_eq}
 use Rattle.osm_model.specs.declared.tags.Tag.{Tag}
 use Rattle.osm_model.specs.declared.extract.Extract.{Extract}
-use Rattle.osm_model.specs.Tags.{value_of}
-use Rattle.road_pieces.specs.Modes.{all_mode_bits, ShareMode}
+use Rattle.way_tags.specs.declared.directions.Dir.TheVariants as dirs
+use Rattle.way_tags.specs.Ways.{road_class, road_access}
+use Rattle.way_tags.specs.Nodes.{is_barrier_node, node_modes}
+use Rattle.way_tags.specs.Names.{road_names}
+use Rattle.road_pieces.specs.Modes.{ShareMode}
 
--- a way is part of the roads
-abbrev pub is_routable : List Tag → Bool
-is_routable tags = option_map_or (λ value. bytes_eq value (codes "residential")) (value_of (codes "highway") tags) false
+-- a way is part of the roads: it has a class
+unfoldable pub is_routable : List Tag → Bool
+is_routable tags = is_some (road_class tags)
 
--- a node has a barrier: the key `barrier`, and not the value `no`
-abbrev pub is_barrier : List Tag → Bool
-is_barrier tags = option_map_or (λ value. not (bytes_eq value (codes "no"))) (value_of (codes "barrier") tags) false
+-- a node is a barrier
+unfoldable pub is_barrier : List Tag → Bool
+is_barrier tags = is_barrier_node tags
 
--- The tables of tags, of which no proof but those of `proofs/Fits.antt` knows more than the name.
-
--- the class of a routable way, from 0, motorway, to 7; 6 is residential
+-- the class of a routable way, from 0, motorway, to 7; a way that isn't routable has no piece, and which number stands
+-- for it here doesn't matter
 unfoldable pub class_of : List Tag → ℕ
-class_of tags = 6
+class_of tags = unwrap_or (road_class tags) 7
 
--- the modes that may use a routable way forward and backward, and pass a node
+-- the modes that may use a way forward and backward, and pass a node
 unfoldable pub forward_access : List Tag → ℕ
-forward_access tags = all_mode_bits
+forward_access tags = road_access tags dirs.Forward
 
 unfoldable pub backward_access : List Tag → ℕ
-backward_access tags = all_mode_bits
+backward_access tags = road_access tags dirs.Backward
 
 unfoldable pub node_access : List Tag → ℕ
-node_access tags = all_mode_bits
+node_access tags = node_modes tags
 
 -- the names of a way
 unfoldable pub names_of : List Tag → List (List ℕ)
-names_of tags = []
+names_of tags = road_names tags
 
 -- the tags of the way, and of the node, with that id
 abbrev pub way_tags : Extract → ℤ → List Tag

@@ -3,8 +3,10 @@
 ghost use Rattle.std.specs.Prelude.{◌<◌};
 
 use crate::plain::{plain_junctions, plain_missing, plain_pieces, plain_runs, plain_ways};
-use crate::{Piece, PieceView, Pieces, Roads, cut};
-use osm_model::{Extract, Nodes, OsmNode, OsmWay, Refs, Relations, Tag, TagText, Tags, Ways};
+use crate::{NamesView, Piece, PieceView, Pieces, Roads, cut};
+use osm_model::{
+    Extract, Names, Nodes, OsmNode, OsmWay, Refs, Relations, Tag, TagText, Tags, Ways,
+};
 use std::alloc::{AllocError, Global};
 use std::test::Fail;
 
@@ -35,28 +37,201 @@ impl Dice {
     }
 }
 
-/// A list of one tag.
-fn tagged(alloc: Global, key: &str, value: &str) -> Result<Tags, AllocError> {
-    let mut tags = Tags::new(alloc);
+/// Values of `highway`, and two that make no road.
+const HIGHWAYS: [&str; 25] = [
+    "motorway",
+    "motorway_link",
+    "trunk",
+    "trunk_link",
+    "primary",
+    "primary_link",
+    "secondary",
+    "secondary_link",
+    "tertiary",
+    "tertiary_link",
+    "unclassified",
+    "residential",
+    "living_street",
+    "service",
+    "road",
+    "track",
+    "path",
+    "cycleway",
+    "footway",
+    "pedestrian",
+    "steps",
+    "bridleway",
+    "raceway",
+    "",
+    "residential",
+];
+
+/// What else is said of ways.
+const WAY_TAGS: [(&str, &str); 23] = [
+    ("area", "yes"),
+    ("area", "no"),
+    ("oneway", "yes"),
+    ("oneway", "true"),
+    ("oneway", "1"),
+    ("oneway", "-1"),
+    ("oneway", "reverse"),
+    ("oneway", "no"),
+    ("oneway", "false"),
+    ("oneway", "0"),
+    ("oneway", "reversible"),
+    ("junction", "roundabout"),
+    ("junction", "circular"),
+    ("junction", "jughandle"),
+    ("oneway:bicycle", "no"),
+    ("oneway:bus", "no"),
+    ("oneway:psv", "no"),
+    ("oneway:bicycle", "yes"),
+    ("name", "Lange Straße"),
+    ("name", ""),
+    ("name", "B 1"),
+    ("ref", "B 1"),
+    ("ref", ""),
+];
+
+/// The keys of access, and their values, with two that are unknown.
+const ACCESS_KEYS: [&str; 9] = [
+    "access",
+    "vehicle",
+    "motor_vehicle",
+    "motorcar",
+    "hgv",
+    "psv",
+    "bus",
+    "bicycle",
+    "foot",
+];
+
+const ACCESS_VALUES: [&str; 16] = [
+    "yes",
+    "designated",
+    "permissive",
+    "destination",
+    "customers",
+    "delivery",
+    "official",
+    "public",
+    "no",
+    "private",
+    "agricultural",
+    "forestry",
+    "use_sidepath",
+    "dismount",
+    "unknown",
+    "",
+];
+
+/// Values of `barrier`.
+const BARRIERS: [&str; 10] = [
+    "bollard",
+    "block",
+    "cycle_barrier",
+    "bus_trap",
+    "stile",
+    "turnstile",
+    "kissing_gate",
+    "gate",
+    "no",
+    "",
+];
+
+/// Which entries of the lists above were drawn.
+#[derive(Drop)]
+struct Drawn {
+    highways: [bool; 25],
+    way_tags: [bool; 23],
+    access_keys: [bool; 9],
+    access_values: [bool; 16],
+    barriers: [bool; 10],
+}
+
+impl Drawn {
+    fn none() -> Drawn {
+        Drawn {
+            highways: [false; 25],
+            way_tags: [false; 23],
+            access_keys: [false; 9],
+            access_values: [false; 16],
+            barriers: [false; 10],
+        }
+    }
+
+    fn are_all(&self) -> bool {
+        self.highways.iter().all(|drawn| *drawn)
+            && self.way_tags.iter().all(|drawn| *drawn)
+            && self.access_keys.iter().all(|drawn| *drawn)
+            && self.access_values.iter().all(|drawn| *drawn)
+            && self.barriers.iter().all(|drawn| *drawn)
+    }
+}
+
+/// Puts a tag after the others.
+fn add_tag(alloc: Global, tags: &mut Tags, key: &str, value: &str) -> Result<(), AllocError> {
     tags.push(Tag {
         key: TagText::from_str(alloc, key)?,
         value: TagText::from_str(alloc, value)?,
-    })?;
+    })
+}
+
+/// A tag of access.
+fn add_access(
+    alloc: Global,
+    dice: &mut Dice,
+    drawn: &mut Drawn,
+    tags: &mut Tags,
+) -> Result<(), AllocError> {
+    let key = dice.roll(9) as usize;
+    let value = dice.roll(16) as usize;
+    drawn.access_keys[key] = true;
+    drawn.access_values[value] = true;
+    add_tag(alloc, tags, ACCESS_KEYS[key], ACCESS_VALUES[value])
+}
+
+/// The tags of a node: of one in four a barrier, maybe with access; of some others access alone.
+fn draw_node_tags(alloc: Global, dice: &mut Dice, drawn: &mut Drawn) -> Result<Tags, AllocError> {
+    let mut tags = Tags::new(alloc);
+    if dice.once_in(4) {
+        let i = dice.roll(10) as usize;
+        drawn.barriers[i] = true;
+        add_tag(alloc, &mut tags, "barrier", BARRIERS[i])?;
+    }
+    for _ in 0..dice.roll(3) {
+        add_access(alloc, dice, drawn, &mut tags)?;
+    }
     Ok(tags)
 }
 
-/// Some of the nodes 0 to 7, one in five with a barrier.
-fn draw_nodes(alloc: Global, dice: &mut Dice) -> Result<Nodes, AllocError> {
+/// The tags of a way: a value of `highway` among some others, and in one of eight none.
+fn draw_way_tags(alloc: Global, dice: &mut Dice, drawn: &mut Drawn) -> Result<Tags, AllocError> {
+    let mut tags = Tags::new(alloc);
+    for _ in 0..dice.roll(3) {
+        let i = dice.roll(23) as usize;
+        drawn.way_tags[i] = true;
+        add_tag(alloc, &mut tags, WAY_TAGS[i].0, WAY_TAGS[i].1)?;
+    }
+    if !dice.once_in(8) {
+        let i = dice.roll(25) as usize;
+        drawn.highways[i] = true;
+        add_tag(alloc, &mut tags, "highway", HIGHWAYS[i])?;
+    }
+    for _ in 0..dice.roll(3) {
+        add_access(alloc, dice, drawn, &mut tags)?;
+    }
+    Ok(tags)
+}
+
+/// Some of the nodes 0 to 7.
+fn draw_nodes(alloc: Global, dice: &mut Dice, drawn: &mut Drawn) -> Result<Nodes, AllocError> {
     let mut nodes = Nodes::new(alloc);
     for id in 0..8 {
         if dice.once_in(4) {
             continue;
         }
-        let tags = if dice.once_in(5) {
-            tagged(alloc, "barrier", "gate")?
-        } else {
-            Tags::new(alloc)
-        };
+        let tags = draw_node_tags(alloc, dice, drawn)?;
         nodes.push(&OsmNode {
             id,
             lat: dice.roll(100_000) as i32,
@@ -67,19 +242,15 @@ fn draw_nodes(alloc: Global, dice: &mut Dice) -> Result<Nodes, AllocError> {
     Ok(nodes)
 }
 
-/// Up to four ways of up to nine refs each, one in four of them no road.
-fn draw_ways(alloc: Global, dice: &mut Dice) -> Result<Ways, AllocError> {
+/// Up to four ways of up to nine refs each.
+fn draw_ways(alloc: Global, dice: &mut Dice, drawn: &mut Drawn) -> Result<Ways, AllocError> {
     let mut ways = Ways::new(alloc);
     for id in 0..dice.roll(5) {
         let mut refs = Refs::new(alloc);
         for _ in 0..dice.roll(10) {
             refs.push(dice.roll(8) as i64)?;
         }
-        let tags = if dice.once_in(4) {
-            tagged(alloc, "highway", "service")?
-        } else {
-            tagged(alloc, "highway", "residential")?
-        };
+        let tags = draw_way_tags(alloc, dice, drawn)?;
         ways.push(&OsmWay {
             id: id as i64,
             tags,
@@ -89,7 +260,21 @@ fn draw_ways(alloc: Global, dice: &mut Dice) -> Result<Ways, AllocError> {
     Ok(ways)
 }
 
-/// Whether two pieces have the same fields. None has a name yet.
+/// Whether two lists of names are the same.
+fn same_names(ones: &NamesView<'_>, others: &Names) -> bool {
+    let others = others.as_slice();
+    if ones.len() != others.len() {
+        return false;
+    }
+    for i in 0..others.len() {
+        if ones.at(i) != others[i].as_str() {
+            return false;
+        }
+    }
+    true
+}
+
+/// Whether two pieces have the same fields.
 fn same_piece(one: &PieceView<'_>, other: &Piece) -> bool {
     one.key() == other.key
         && one.start() == other.start
@@ -99,7 +284,7 @@ fn same_piece(one: &PieceView<'_>, other: &Piece) -> bool {
         && one.class() == other.class
         && one.forward() == other.forward
         && one.backward() == other.backward
-        && one.names().len() == other.names.len()
+        && same_names(one.names(), &other.names)
 }
 
 fn same_pieces(ones: &Pieces, others: &[Piece]) -> bool {
@@ -131,16 +316,17 @@ fn are_plain(alloc: Global, extract: &Extract, roads: &Roads) -> Result<bool, Al
 fn cut_agrees_with_the_plain_program(rt: HostRuntime) -> Result<(), Fail> {
     let alloc = rt.alloc();
     let mut dice = Dice { state: 1 };
+    let mut drawn = Drawn::none();
     let mut pieces = 0usize;
-    for number in 0..500 {
-        let nodes = draw_nodes(alloc, &mut dice)?;
-        let ways = draw_ways(alloc, &mut dice)?;
+    for number in 0..2_000 {
+        let nodes = draw_nodes(alloc, &mut dice, &mut drawn)?;
+        let ways = draw_ways(alloc, &mut dice, &mut drawn)?;
         let extract = Extract::of_lists(nodes, ways, Relations::new(alloc)).ok_or("no extract")?;
         let roads = cut(alloc, &extract).ok().ok_or("refused")?;
         assert!(rt; are_plain(alloc, &extract, &roads)?, "at {number}");
         pieces = pieces.saturating_add(roads.pieces.len());
     }
-    // the extracts aren't empty ones
-    assert!(rt; pieces > 500, "only {pieces} pieces");
+    // the extracts aren't empty ones, and each entry of the lists was drawn
+    assert!(rt; pieces > 2_000 && drawn.are_all(), "only {pieces} pieces");
     Ok(())
 }

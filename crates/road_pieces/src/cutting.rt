@@ -3,17 +3,18 @@
 ghost use Rattle.std.specs.Prelude.{◌≡◌, ◌<◌, ◌≤◌, ◌⊎◌, [], Option, None, Some, find, option_map, nat_lt, length, map, flat_map, All, IfOk, IfErr, OnOk};
 ghost use Rattle.osm_model.specs.declared.nodes.OsmNode.{OsmNode};
 ghost use Rattle.road_pieces.specs.declared.faults.CutFault.{CutFault};
-ghost use Rattle.road_pieces.specs.Runs.{all_runs, is_junction};
+ghost use Rattle.road_pieces.specs.Runs.{is_junction};
+ghost use Rattle.road_pieces.specs.RoadsOf.{RoadsOf};
 ghost use Rattle.road_pieces.specs.Lines.{all_lines};
 ghost use Rattle.road_pieces.specs.Parts.{line_rows};
-ghost use Rattle.road_pieces.specs.Rows.{junction_row, junction_rows, piece_rows, routable_ways, missing_refs, too_long, refusal};
+ghost use Rattle.road_pieces.specs.Rows.{junction_row, junction_rows, piece_rows, too_long, refusal};
 
 use crate::counts::{count_pieces, count_places};
 use crate::crossings::find_junctions;
 use crate::faults::CutFault;
 use crate::lines::Lines;
 use crate::parts::cut_line;
-use crate::pieces::Pieces;
+use crate::pieces::{DraftPieces, Pieces};
 use crate::rows::{Junction, Junctions, Roads};
 use crate::rules::{is_barrier, node_access};
 use crate::survey::{Survey, find_lines};
@@ -32,11 +33,7 @@ const LONGEST: u64 = 268_435_455;
 /// More than 4,000,000 pieces are refused, or else the first piece that is longer than 268,435,455 cm. Want of
 /// memory is answered as `OutOfMemory`.
 pub fn cut(alloc: Global, extract: &Extract) -> Result<Roads, CutFault>
-    ensures junctions { IfOk result (λ roads. roads.junctions ≡ junction_rows extract.now) }
-    ensures pieces { IfOk result (λ roads. roads.pieces ≡ piece_rows extract.now) }
-    ensures ways { IfOk result (λ roads. roads.ways ≡ routable_ways extract.now) }
-    ensures runs { IfOk result (λ roads. roads.runs ≡ length (all_runs extract.now)) }
-    ensures missing { IfOk result (λ roads. roads.missing ≡ missing_refs extract.now) }
+    ensures roads { IfOk result (λ roads. RoadsOf extract.now roads) }
 
     // A refusal has its cause, and a cause is refused; only want of memory is free.
     ensures accepted { OnOk result (refusal (piece_rows extract.now) ≡ None) }
@@ -83,11 +80,11 @@ fn cut_lines(
 {
     // The pieces of a line have its points, and those between two pieces twice.
     let points = (count_places(lines) as usize + count).saturating_sub(lines.len());
-    let mut pieces = Pieces::with_room(alloc, count, points)?;
+    let mut pieces = DraftPieces::with_room(alloc, count, points)?;
     for i in 0..lines.len() {
         cut_line(alloc, extract, flags, &lines.line(i), &mut pieces)?;
     }
-    Ok(pieces)
+    Ok(pieces.finish())
 }
 
 /// Why the first piece that is too long is refused.

@@ -23,6 +23,8 @@ mod rules;
 mod steps;
 mod survey;
 #[cfg(test)]
+mod tagged;
+#[cfg(test)]
 mod tests;
 
 pub use cutting::cut;

@@ -1,6 +1,6 @@
 //! A list of pieces.
 
-ghost use Rattle.std.specs.Prelude.{◌≡◌, ◌<◌, ◌≤◌, ◌↔◌, ◌++◌, ◌∷◌, [], length, All, IfOk, OnOk, OnErr, IsTrue, slice_index_or};
+ghost use Rattle.std.specs.Prelude.{◌≡◌, ◌<◌, ◌≤◌, ◌+◌, ◌↔◌, ◌++◌, ◌∷◌, [], length, All, IfOk, OnOk, IsTrue, slice_index_or};
 ghost use Rattle.osm_model.specs.OsmNode.{IsPlaced};
 ghost use Rattle.road_pieces.specs.PieceRows.{piece_over};
 
@@ -33,8 +33,97 @@ pub(crate) struct PieceRow {
     names_to: u32,
 }
 
+/// Pieces that are made one after the other. Contracts see them as a draft: the pieces, how many points and names they
+/// have in all, and the names of the pieces that come next.
+#[derive(Debug, Drop)]
+pub(crate) struct DraftPieces {
+    rows: Vec<PieceRow>,
+    points: Vec<Point>,
+    names: NameRows,
+    names_from: u32,
+    names_to: u32,
+}
+
+impl Model for DraftPieces {
+    ghost use Rattle.road_pieces.specs.PieceRows.{Drafted, drafted, AreDrafted};
+
+    ghost Value = { Drafted };
+
+    ghost view = { λ a. drafted a.points.items a.names a.rows.items a.names_from a.names_to };
+
+    ghost invariant = { λ a. AreDrafted a.points.items a.names a.rows.items a.names_from a.names_to };
+}
+
+impl DraftPieces {
+    /// No piece yet, with room for so many pieces with so many points in all.
+    pub fn with_room(alloc: Global, pieces: usize, points: usize) -> Result<DraftPieces, AllocError>
+        ensures done { IfOk result (λ made. made.done ≡ []) }
+        ensures points { IfOk result (λ made. made.points ≡ 0) }
+        ensures named { IfOk result (λ made. made.named ≡ 0) }
+    {
+        Ok(DraftPieces {
+            rows: Vec::with_capacity(alloc, pieces)?,
+            points: Vec::with_capacity(alloc, points)?,
+            names: NameRows::new(alloc),
+            names_from: 0,
+            names_to: 0,
+        })
+    }
+
+    /// Gives names to the pieces that come next. They are kept once for all of these.
+    pub fn name(&mut self, names: &Names) -> Result<(), AllocError>
+        requires room { self.old.named + length names.now ≤ 4_294_967_295 }
+        ensures done { self.new.done ≡ self.old.done }
+        ensures points { self.new.points ≡ self.old.points }
+        ensures named { OnOk result (self.new.named ≡ self.old.named + length names.now) }
+        ensures names { OnOk result (self.new.names ≡ names.now) }
+    {
+        let from = self.names.len();
+        self.names.extend(names.as_slice())?;
+        self.names_from = from as u32;
+        self.names_to = self.names.len() as u32;
+        Ok(())
+    }
+
+    /// Puts a piece over the nodes at these places after the last one.
+    pub fn push(&mut self, head: PieceHead, nodes: &Nodes, places: &[u32]) -> Result<(), AllocError>
+        requires placed { All IsPlaced nodes.now }
+        requires inside { All (λ p. p < length nodes.now) places.now }
+        requires short { length places.now ≤ 20_000_000 }
+        requires room { self.old.points + length places.now ≤ 4_294_967_295 }
+        ensures done { OnOk result (self.new.done ≡ self.old.done ++ piece_over nodes.now head places.now self.old.names ∷ []) }
+        ensures points { OnOk result (self.new.points ≡ self.old.points + length places.now) }
+        ensures named { self.new.named ≡ self.old.named }
+        ensures names { self.new.names ≡ self.old.names }
+    {
+        let shape_from = self.points.len();
+        add_course(&mut self.points, nodes, places)?;
+        let cm = length_of(&self.points[shape_from..]);
+        self.rows.push(PieceRow {
+            head,
+            cm,
+            shape_from: shape_from as u32,
+            shape_to: self.points.len() as u32,
+            names_from: self.names_from,
+            names_to: self.names_to,
+        })?;
+        Ok(())
+    }
+
+    /// The pieces.
+    pub fn finish(self) -> Pieces
+        ensures { result ≡ self.done }
+    {
+        Pieces {
+            rows: self.rows,
+            points: self.points,
+            names: self.names,
+        }
+    }
+}
+
 /// A list of pieces. Contracts see it as that list. A piece takes a row of 64 bytes, and 8 bytes for each point of
-/// its shape.
+/// its shape; where its shape and its names stand are numbers of 32 bits, which the limits of an extract never pass.
 #[derive(Debug, Drop)]
 pub struct Pieces {
     rows: Vec<PieceRow>,
@@ -56,21 +145,6 @@ impl Model for Pieces {
 }
 
 impl Pieces {
-    /// No piece yet, with room for so many pieces with so many points in all.
-    pub(crate) fn with_room(
-        alloc: Global,
-        pieces: usize,
-        points: usize,
-    ) -> Result<Pieces, AllocError>
-        ensures { IfOk result (λ made. made ≡ []) }
-    {
-        Ok(Pieces {
-            rows: Vec::with_capacity(alloc, pieces)?,
-            points: Vec::with_capacity(alloc, points)?,
-            names: NameRows::new(alloc),
-        })
-    }
-
     /// The number of pieces.
     pub fn len(&self) -> usize
         ensures { result ≡ length self.now }
@@ -83,43 +157,6 @@ impl Pieces {
         ensures { IsTrue result ↔ (self.now ≡ []) }
     {
         self.rows.is_empty()
-    }
-
-    /// Puts a piece over the nodes at these places after the last one. Without memory the list stays as it was.
-    #[tactic(auto, using(crate::proofs::PieceLemmas::pieces_kept, crate::proofs::PieceLemmas::piece_behind, osm_model::proofs::TextLemmas::grew_none, osm_model::proofs::TextLemmas::grew_by))]
-    pub(crate) fn push(
-        &mut self,
-        head: PieceHead,
-        nodes: &Nodes,
-        places: &[u32],
-        names: &Names,
-    ) -> Result<(), AllocError>
-        requires placed { All IsPlaced nodes.now }
-        requires inside { All (λ p. p < length nodes.now) places.now }
-        requires short { length places.now ≤ 20_000_000 }
-        ensures ok { OnOk result (self.new ≡ self.old ++ piece_over nodes.now head places.now names.now ∷ []) }
-        ensures err { OnErr result (self.new ≡ self.old) }
-    {
-        let shape_from = self.points.len();
-        let names_from = self.names.len();
-        let most = u32::MAX as usize;
-        if shape_from > most || places.len() > most - shape_from {
-            return Err(AllocError);
-        }
-        if names_from > most || names.len() > most - names_from {
-            return Err(AllocError);
-        }
-        add_course(&mut self.points, nodes, places)?;
-        self.names.extend(names.as_slice())?;
-        self.rows.push(PieceRow {
-            head,
-            cm: length_of(&self.points[shape_from..]),
-            shape_from: shape_from as u32,
-            shape_to: self.points.len() as u32,
-            names_from: names_from as u32,
-            names_to: self.names.len() as u32,
-        })?;
-        Ok(())
     }
 
     /// The piece at place `i`.

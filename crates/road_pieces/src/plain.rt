@@ -3,10 +3,11 @@
 
 use crate::cutting::junction_of;
 use crate::rows::{Junction, Piece};
-use crate::rules::{backward_access, class_of, forward_access, is_barrier, is_routable, names_of};
+use crate::rules::{is_barrier, is_routable, names_of};
 use fixed_geo::{Point, Shape, segment_cm};
 use osm_model::{Extract, Nodes, PieceKey, WayView};
 use std::alloc::{AllocError, Global};
+use way_tags::{Dir, access_of, class_of};
 
 /// The junctions of an extract.
 pub(crate) fn plain_junctions(
@@ -232,9 +233,9 @@ fn piece_of(
         end: ids.last().copied().unwrap_or(0),
         cm: course_cm(&points),
         shape: Shape::from_vec(points),
-        class: class_of(way.tags()),
-        forward: forward_access(way.tags()),
-        backward: backward_access(way.tags()),
+        class: class_of(way.tags()).unwrap_or(7),
+        forward: access_of(way.tags(), Dir::Forward),
+        backward: access_of(way.tags(), Dir::Backward),
         names: names_of(alloc, way.tags())?,
     })
 }

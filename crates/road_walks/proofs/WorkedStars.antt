@@ -10,6 +10,7 @@ use Rattle.osm_model.specs.declared.extract.Extract.{Extract}
 use Rattle.osm_model.specs.Extract.{WaysRise, refs_in, tags_in}
 use Rattle.road_pieces.specs.declared.steps.Step.{Step}
 use Rattle.road_pieces.specs.DirectedPiece.{DirectedPiece}
+use Rattle.road_pieces.specs.Rules.{is_routable, is_barrier}
 use Rattle.road_pieces.specs.Pieces.{IsPiece}
 use Rattle.road_pieces.specs.Turns.{Written}
 use Rattle.road_pieces.specs.Matches.{TurnRule, via_node, IsMatch}
@@ -93,6 +94,7 @@ abbrev pub out_of : ℕ → DirectedPiece
 out_of id = record { way = pos id; run = 0; from = 0; to = 1; forward = false }
 
 edges_at_5 : base_edges four_streets (pos 5) ≡ out_of 1 ∷ (out_of 2 ∷ (out_of 3 ∷ (out_of 4 ∷ [])))
+unfolding is_routable is_barrier
 edges_at_5 = refl
 
 -- no left turn from street 1, via node 5, to street 2
@@ -106,6 +108,7 @@ abbrev onto_2 : Step
 onto_2 = record { way = pos 2; run = 0; segment = 0; forward = false }
 
 the_turn : IsMatch four_streets no_left_turn (into_1 ∷ (onto_2 ∷ []))
+unfolding is_routable is_barrier
 the_turn = record {
   first = into_1;
   parts = [];
@@ -121,6 +124,7 @@ the_turn = record {
 
 -- its pattern: into node 5 by street 1, out of it by street 2
 its_pattern : Written four_streets (into_1 ∷ (onto_2 ∷ [])) (into 1 ∷ (out_of 2 ∷ []))
+unfolding is_routable is_barrier
 its_pattern = record {
   first = into_1;
   last = onto_2;
@@ -138,13 +142,16 @@ its_pattern = record {
 
 -- the second piece has the local index 1: the pattern is a mask bit, and no sequence
 second_index : local_index four_streets (out_of 2) ≡ 1
+unfolding is_routable is_barrier
 second_index = refl
 
 a_bit : in_mask (local_index four_streets) tile_numbers.vehicles tile_numbers.bits (into 1 ∷ (out_of 2 ∷ [])) 77 ≡ true
+unfolding is_routable is_barrier
 a_bit = refl
 
 -- but a sequence, where the bus is excepted
 no_bit : in_mask (local_index four_streets) tile_numbers.vehicles tile_numbers.bits (into 1 ∷ (out_of 2 ∷ [])) 13 ≡ false
+unfolding is_routable is_barrier
 no_bit = refl
 
 -- ten streets to node 50: street 10 has the local index 9, so a turn from street 1 to it is a sequence
@@ -152,9 +159,11 @@ abbrev ten_streets : Extract
 ten_streets = star 10 50 (lit≤ tt) (lit≤ tt)
 
 tenth_index : local_index ten_streets (out_of 10) ≡ 9
+unfolding is_routable is_barrier
 tenth_index = refl
 
 a_sequence : in_mask (local_index ten_streets) tile_numbers.vehicles tile_numbers.bits (into 1 ∷ (out_of 10 ∷ [])) 77 ≡ false
+unfolding is_routable is_barrier
 a_sequence = refl
 
 -- way 5 with refs 4, 2, 5 and way 7 with refs 1, 2, 3, which cross at node 2: its edges along way 7 have the local
@@ -193,8 +202,9 @@ along_7 : ℕ → Bool → DirectedPiece
 along_7 from forward = record { way = pos 7; run = 0; from = from; to = from + 1; forward = forward }
 
 edges_at_2 : map {B = ℤ × ℕ} (λ p. (p.way, p.from)) (base_edges crossing (pos 2)) ≡ (pos 5, 0) ∷ (pos 5, 1) ∷ (pos 7, 0) ∷ (pos 7, 1) ∷ []
+unfolding is_routable is_barrier
 edges_at_2 = refl
 
 indexes_at_2 : map (local_index crossing) (along_7 0 false ∷ along_7 1 true ∷ []) ≡ 2 ∷ 3 ∷ []
-unfolding along_7
+unfolding along_7 is_routable is_barrier
 indexes_at_2 = refl

@@ -4,6 +4,7 @@ use Rattle.std.proofs.Common.{Bool, ℕ, ◌≡◌, pos, [], ◌∷◌, map, ref
 use Rattle.std.proofs.lemmas.List.Elements.{All-nil}
 use Rattle.road_pieces.specs.declared.steps.Step.{Step}
 use Rattle.road_pieces.specs.DirectedPiece.{DirectedPiece}
+use Rattle.road_pieces.specs.Rules.{is_routable, is_barrier}
 use Rattle.road_pieces.specs.Pieces.{IsPiece}
 use Rattle.road_pieces.specs.Turns.{Written}
 use Rattle.road_pieces.specs.Matches.{TurnRule, via_node, IsMatch, reversed}
@@ -23,9 +24,11 @@ abbrev pub loop_back : DirectedPiece
 loop_back = record { way = pos 7; run = 0; from = 1; to = 4; forward = false }
 
 edges_at_2 : base_edges lasso (pos 2) ≡ stem_back ∷ (loop_on ∷ (loop_back ∷ []))
+unfolding is_routable is_barrier
 edges_at_2 = refl
 
 locals : map (local_index lasso) (stem_on ∷ (stem_back ∷ (loop_on ∷ (loop_back ∷ [])))) ≡ 0 ∷ (0 ∷ (1 ∷ (2 ∷ [])))
+unfolding is_routable is_barrier
 locals = refl
 
 -- no u-turn at node 2, from way 7 to way 7
@@ -36,6 +39,7 @@ abbrev there : Step
 there = record { way = pos 7; run = 0; segment = 0; forward = true }
 
 u_turn : IsMatch lasso no_u_turn (there ∷ (reversed there ∷ []))
+unfolding is_routable is_barrier
 u_turn = record {
   first = there;
   parts = [];
@@ -51,6 +55,7 @@ u_turn = record {
 
 -- its pattern: the stem to node 2 and back
 its_pattern : Written lasso (there ∷ (reversed there ∷ [])) (stem_on ∷ (stem_back ∷ []))
+unfolding is_routable is_barrier
 its_pattern = record {
   first = there;
   last = reversed there;
@@ -68,4 +73,5 @@ its_pattern = record {
 
 -- refs 1, 2, 3, 1, 4, 5, 1: two loops at one junction, each of which is two base edges there
 at_the_loops : map {B = ℕ × Bool} (λ p. (p.from, p.forward)) (base_edges loops (pos 1)) ≡ (0, true) ∷ (0, false) ∷ (3, true) ∷ (3, false) ∷ []
+unfolding is_routable is_barrier
 at_the_loops = refl

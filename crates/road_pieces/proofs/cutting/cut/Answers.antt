@@ -44,11 +44,14 @@ returns-in-Some-clause-refused c =
     (counted c.args.extract.now _ _ _ c.in_ok-lines.ensures.lines (c.as_slice.ensures.value ∙ c.in_ok-flags.ensures) c.count_pieces-count.ensures) c.if-count-gt-MOST_PIECES.false
     (c.in-Some.ensures ∙ ap first_long (c.in_ok-pieces.ensures ∙ rows_are c.args.extract.now)))
 
-pub returns-clause-pieces : goal.returns-clause-pieces
-returns-clause-pieces c = c.in_ok-pieces.ensures ∙ rows_are c.args.extract.now
-
-pub returns-clause-runs : goal.returns-clause-runs
-returns-clause-runs c = c.len-runs.ensures ∙ (ap length c.in_ok-lines.ensures.lines ∙ as_many c.args.extract.now)
+pub returns-clause-roads : goal.returns-clause-roads
+returns-clause-roads c = record {
+  junctions = c.from_vec.ensures ∙ c.in_ok-junctions.ensures;
+  pieces = c.in_ok-pieces.ensures ∙ rows_are c.args.extract.now;
+  ways = c.in_ok-lines.ensures.ways;
+  runs = c.len-runs.ensures ∙ (ap length c.in_ok-lines.ensures.lines ∙ as_many c.args.extract.now);
+  missing = c.in_ok-lines.ensures.missing;
+}
 
 pub returns-clause-accepted : goal.returns-clause-accepted
 returns-clause-accepted c =

@@ -1,8 +1,6 @@
--- The pieces so far are those of the lines so far.
-use Rattle.std.proofs.Common.{◌≡◌, take}
-use Rattle.std.specs.List.{flat_map}
-use Rattle.road_pieces.specs.Parts.{line_rows}
+-- The pieces so far are those of the lines so far, and have no more points and names than these lines can have.
+use Rattle.road_pieces.proofs.CutLemmas.{AreCutSo}
 use Rattle.road_pieces.proofs.cutting.cut_lines.Given as goal
 
 abbrev pub invariant-loop-i : goal.invariant-loop-i
-invariant-loop-i l = l.pieces ≡ flat_map (line_rows l.extract) (take l.i l.lines.done)
+invariant-loop-i l = AreCutSo l.extract l.lines.done l.pieces l.i

@@ -1,4 +1,4 @@
--- The pieces so far, with what the rest of the line gives, are those of the whole line.
+-- The pieces so far, with what the rest of the line gives, are those of the whole line; and how many points they have.
 use Rattle.road_pieces.proofs.PartLemmas.{IsCut}
 use Rattle.road_pieces.proofs.parts.cut_line.Given as goal
 
