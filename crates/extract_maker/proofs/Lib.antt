@@ -1,0 +1,14 @@
+pub mod Varints
+pub mod Messages
+pub mod Sums
+pub mod Helds
+pub mod DataBlocks
+pub mod Triples
+pub mod Counting
+pub mod RisingIds
+pub mod GridObjects
+pub mod GridChunks
+pub mod GridContent
+pub mod GridReads
+pub mod RisingBytes
+pub mod Written
