@@ -1,4 +1,6 @@
 //! Random tiles, written and read again, and such files with one byte changed.
+ghost use Rattle.std.specs.Prelude.{◌≤◌, ◌<◌};
+
 use crate::{SIGNATURE, TileFault, read_tile, write_tile};
 use section_grammar::{push_half, push_word, push_zeros};
 use std::alloc::{AllocError, Global};
