@@ -8,8 +8,6 @@ mod header;
 mod ids;
 mod items;
 mod laws;
-#[cfg(test)]
-mod random_tiles;
 mod read;
 mod record_sections;
 mod sequence_section;
