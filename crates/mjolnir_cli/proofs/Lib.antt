@@ -4,8 +4,11 @@ pub mod SameRoads
 pub mod OneAnswer
 pub mod OneEnd
 pub mod SomeEnd
+pub mod Refusals
 pub mod Cutting
 pub mod Stored
 pub mod Ends
 pub mod PiecesTold
+pub mod HowItEnds
+mod OldClauses
 mod WorkedLists

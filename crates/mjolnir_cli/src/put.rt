@@ -2,8 +2,7 @@
 
 ghost use Rattle.std.specs.Prelude.{◌≡◌, ℕ, List, [], OnOk, OnErr};
 ghost use Rattle.host_port.specs.Faults.{Counted, IfFailed};
-ghost use Rattle.mjolnir_cli.specs.Puts.{PutsAll, IsFront, OnlyPut};
-ghost use Rattle.mjolnir_cli.specs.Said.{Unput};
+ghost use Rattle.mjolnir_cli.specs.Puts.{PutsAll, IsFront, OnlyPut, Unput};
 
 use host_port::{Bytes, Host, HostFault, Text};
 

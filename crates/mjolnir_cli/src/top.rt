@@ -1,20 +1,15 @@
 //! The top call: all that the program does.
 
-ghost use Rattle.std.specs.Prelude.{◌≡◌, ◌≢◌, ◌⊎◌, ℕ, List, ◌++◌, map, option_map, length, Some, None, IsSome, IfOk, IfErr, OnOk, []};
+ghost use Rattle.std.specs.Prelude.{◌≡◌, ◌⊎◌, ℕ, List, map, length, Some, IsSome, IfOk, IfErr, OnOk};
 ghost use Rattle.std.specs.String.{string_bytes};
 ghost use Rattle.host_port.specs.Told.{named};
-ghost use Rattle.host_port.specs.Faults.{Rose};
-ghost use Rattle.mjolnir_cli.specs.declared.answer.Answer.{Answer};
-ghost use Rattle.mjolnir_cli.specs.declared.failure.Failure.{Failure};
-ghost use Rattle.mjolnir_cli.specs.declared.failure.Failure.TheVariants.{Words, Read, Put, OutOfMemory};
-ghost use Rattle.mjolnir_cli.specs.Words.{Request, Blobs, Build, asked_by, input_of, paths_of, list_path};
-ghost use Rattle.mjolnir_cli.specs.Commands.{request_of};
-ghost use Rattle.mjolnir_cli.specs.Failures.{cause_of, status_of, line_of};
-ghost use Rattle.mjolnir_cli.specs.Answers.{IsAnswer, IsRefused};
-ghost use Rattle.mjolnir_cli.specs.RoadLists.{ListsRoads, TellsItsPieces};
-ghost use Rattle.mjolnir_cli.specs.Puts.{PutsAll, BeginsWith, IsFront, paths};
+ghost use Rattle.mjolnir_cli.specs.declared.failure.Failure.TheVariants.{OutOfMemory};
+ghost use Rattle.mjolnir_cli.specs.Commands.{command_asked, input_of, paths_of, IsAnswer, IsRefused, CarriesHeadline, HasItsInput};
+ghost use Rattle.mjolnir_cli.specs.Ends.{IsStatus, EndsBy, HasCauses, IsComplete, SameCounts, KeepsHeadline};
+ghost use Rattle.mjolnir_cli.specs.Failures.{cause_of, line_of};
 ghost use Rattle.mjolnir_cli.specs.Listing.{IfOfInput, IsMet, CountedRead, IfRead, OnlyRead};
-ghost use Rattle.mjolnir_cli.specs.Said.{Asks, HasItsInput, Adds, SaysLine, OnlySaid, Unput, IsStatus, IsRefusal};
+ghost use Rattle.mjolnir_cli.specs.Puts.{paths};
+ghost use Rattle.mjolnir_cli.specs.Said.{Adds, OnlySaid};
 
 use crate::answer::Answer;
 use crate::blobs::blob_list;
@@ -53,80 +48,22 @@ pub fn mjolnir<R: Threads + Sync, H: Host, G: Gate>(
     _gate: &G,
 ) -> u8
     ensures statuses { IsStatus result }
-
-    // 0: the files and the text are the request's answer for the bytes of its input, which was read to its end.
-    ensures done { result ≡ 0 → (answer : Answer) × PutsAll answer.files (H.told host.old) (H.told host.new) × Adds answer.text (H.told host.old) (H.told host.new)
-        × ((request : Request) (bytes : List ℕ) → Asks (asked_by (map string_bytes words.now)) (H.told host.old) request bytes → IsAnswer request bytes answer) }
-    ensures whole { result ≡ 0 → (request : Request) (bytes : List ℕ) → Asks (asked_by (map string_bytes words.now)) (H.told host.old) request bytes
-        → (H.told host.new).place ≡ Some (length bytes) }
-    ensures asked { result ≡ 0 → IsSome (asked_by (map string_bytes words.now)) }
-    ensures paths { result ≡ 0 → (request : Request) → asked_by (map string_bytes words.now) ≡ Some request
-        → (H.told host.new).puts ≡ option_map (λ puts. puts ++ paths_of request) (H.told host.old).puts }
-
-    // The file that `build` puts lists the roads of the extract, and what its bytes tell has exactly their walks.
-    ensures lists { result ≡ 0 → (input output bytes : List ℕ) → Asks (asked_by (map string_bytes words.now)) (H.told host.old) (Build input output) bytes
-        → ListsRoads (list_path output) bytes (H.told host.new) }
-
-    // 2: exactly where nothing is asked.
-    ensures words { result ≡ 2 → asked_by (map string_bytes words.now) ≡ None }
-    ensures words_only { asked_by (map string_bytes words.now) ≡ None → (result ≡ 2) ⊎ (result ≡ 7) }
-    ensures words_line { result ≡ 2 → SaysLine (line_of Words) (H.told host.old) (H.told host.new) (H.say_faults host.old) (H.say_faults host.new) }
-
-    // 3: exactly where the count of read faults rose.
-    ensures read { result ≡ 3 → Rose (H.read_faults host.old) (H.read_faults host.new) }
-    ensures read_only { result ≢ 3 → result ≢ 7 → H.read_faults host.new ≡ H.read_faults host.old }
-    ensures read_line { result ≡ 3 → SaysLine (line_of Read) (H.told host.old) (H.told host.new) (H.say_faults host.old) (H.say_faults host.new) }
-
-    // 4: exactly where the count of put faults rose; the files that were put are the first of the answer's, and not all.
-    ensures put { result ≡ 4 → Rose (H.put_faults host.old) (H.put_faults host.new) }
-    ensures put_only { result ≢ 4 → result ≢ 7 → H.put_faults host.new ≡ H.put_faults host.old }
-    ensures put_line { result ≡ 4 → SaysLine (line_of Put) (H.told host.old) (H.told host.new) (H.say_faults host.old) (H.say_faults host.new) }
-    ensures put_front { result ≡ 4 → (front : List (List ℕ × List ℕ)) × PutsAll front (H.told host.old) (H.told host.new)
-        × ((request : Request) (bytes : List ℕ) → Asks (asked_by (map string_bytes words.now)) (H.told host.old) request bytes
-        → (answer : Answer) × IsAnswer request bytes answer × IsFront front answer.files) }
-
-    // 5 and 6: exactly where the input is refused with that status and no fault of reading was counted.
-    ensures refused { (result ≡ 5) ⊎ (result ≡ 6) → (failure : Failure) × (status_of failure ≡ result)
-        × SaysLine (line_of failure) (H.told host.old) (H.told host.new) (H.say_faults host.old) (H.say_faults host.new)
-        × ((request : Request) (bytes : List ℕ) → Asks (asked_by (map string_bytes words.now)) (H.told host.old) request bytes → IsRefused request bytes failure) }
-    ensures refused_only { (request : Request) (bytes : List ℕ) (failure : Failure) → Asks (asked_by (map string_bytes words.now)) (H.told host.old) request bytes
-        → IsRefused request bytes failure → (Rose (H.read_faults host.old) (H.read_faults host.new) → ⊥) → (result ≡ status_of failure) ⊎ (result ≡ 7) }
-
-    // 7: nothing is said but its own line; no file is put, or the first of the answer's, perhaps all.
-    ensures memory { result ≡ 7 → Adds (line_of OutOfMemory) (H.told host.old) (H.told host.new) ⊎ ((H.told host.new).said ≡ (H.told host.old).said) }
-    ensures memory_front { result ≡ 7 → (front : List (List ℕ × List ℕ)) × PutsAll front (H.told host.old) (H.told host.new)
-        × ((front ≡ []) ⊎ ((request : Request) (bytes : List ℕ) → Asks (asked_by (map string_bytes words.now)) (H.told host.old) request bytes
-        → (answer : Answer) × IsAnswer request bytes answer × BeginsWith front answer.files)) }
-
-    // 9: exactly where the count of faults of saying rose while the text of a request that is done was said;
-    // an empty text isn't said.
-    ensures say { result ≡ 9 → Rose (H.say_faults host.old) (H.say_faults host.new) }
-    ensures say_only { result ≡ 0 → H.say_faults host.new ≡ H.say_faults host.old }
-    ensures say_lost { result ≡ 9 → (H.told host.new).said ≡ (H.told host.old).said }
-    ensures say_done { result ≡ 9 → (answer : Answer) × PutsAll answer.files (H.told host.old) (H.told host.new) × (answer.text ≢ [])
-        × ((request : Request) (bytes : List ℕ) → Asks (asked_by (map string_bytes words.now)) (H.told host.old) request bytes → IsAnswer request bytes answer) }
-
-    // Where the words, the input or its roads are refused, or it can't be read, no file is put or changed; and
-    // `blobs` puts none, whatever the status.
-    ensures unput { IsRefusal result → Unput (H.told host.old) (H.told host.new) }
-    ensures blobs_unput { (path : List ℕ) → asked_by (map string_bytes words.now) ≡ Some (Blobs path)
-        → Unput (H.told host.old) (H.told host.new) × (H.put_faults host.new ≡ H.put_faults host.old) }
-
-    // A request that has an answer is done, where no fault was counted.
-    ensures complete { (request : Request) (bytes : List ℕ) (answer : Answer) → Asks (asked_by (map string_bytes words.now)) (H.told host.old) request bytes → IsAnswer request bytes answer
-        → (Rose (H.read_faults host.old) (H.read_faults host.new) → ⊥) → (Rose (H.put_faults host.old) (H.put_faults host.new) → ⊥) → (Rose (H.say_faults host.old) (H.say_faults host.new) → ⊥)
-        → (result ≡ 0) ⊎ (result ≡ 7) }
-
-    // A willing host that has the file which the request opens counts no fault.
-    ensures willing_reads { H.willing host.old → HasItsInput (asked_by (map string_bytes words.now)) (H.told host.old) → H.read_faults host.new ≡ H.read_faults host.old }
-    ensures willing_puts { H.willing host.old → HasItsInput (asked_by (map string_bytes words.now)) (H.told host.old) → H.put_faults host.new ≡ H.put_faults host.old }
-    ensures willing_says { H.willing host.old → HasItsInput (asked_by (map string_bytes words.now)) (H.told host.old) → H.say_faults host.new ≡ H.say_faults host.old }
+    // What the status says of the words, the input, the files and the text.
+    ensures ends { EndsBy result (command_asked (map string_bytes words.now)) (record { told = H.told host.old; read_faults = H.read_faults host.old; put_faults = H.put_faults host.old; say_faults = H.say_faults host.old; willing = H.willing host.old }) (record { told = H.told host.new; read_faults = H.read_faults host.new; put_faults = H.put_faults host.new; say_faults = H.say_faults host.new; willing = H.willing host.new }) }
+    // The other way round: the status where a cause stands.
+    ensures causes { HasCauses result (command_asked (map string_bytes words.now)) (record { told = H.told host.old; read_faults = H.read_faults host.old; put_faults = H.put_faults host.old; say_faults = H.say_faults host.old; willing = H.willing host.old }) (record { told = H.told host.new; read_faults = H.read_faults host.new; put_faults = H.put_faults host.new; say_faults = H.say_faults host.new; willing = H.willing host.new }) }
+    ensures complete { IsComplete result (command_asked (map string_bytes words.now)) (record { told = H.told host.old; read_faults = H.read_faults host.old; put_faults = H.put_faults host.old; say_faults = H.say_faults host.old; willing = H.willing host.old }) (record { told = H.told host.new; read_faults = H.read_faults host.new; put_faults = H.put_faults host.new; say_faults = H.say_faults host.new; willing = H.willing host.new }) }
+    // A willing host that has the file which the command opens counts no fault.
+    ensures willing { H.willing host.old → HasItsInput (command_asked (map string_bytes words.now)) (H.told host.old) → SameCounts (record { told = H.told host.old; read_faults = H.read_faults host.old; put_faults = H.put_faults host.old; say_faults = H.say_faults host.old; willing = H.willing host.old }) (record { told = H.told host.new; read_faults = H.read_faults host.new; put_faults = H.put_faults host.new; say_faults = H.say_faults host.new; willing = H.willing host.new }) }
+    // What a command that is done promises beside its answer.
+    ensures headline { KeepsHeadline result (command_asked (map string_bytes words.now)) (record { told = H.told host.old; read_faults = H.read_faults host.old; put_faults = H.put_faults host.old; say_faults = H.say_faults host.old; willing = H.willing host.old }) (record { told = H.told host.new; read_faults = H.read_faults host.new; put_faults = H.put_faults host.new; say_faults = H.say_faults host.new; willing = H.willing host.new }) }
 {
     list_agrees();
     one_end();
-    match asked(words) {
-        None => say_failure(alloc, host, &Failure::Words),
-        Some(command) => match run(alloc, command, host) {
+    match asked(alloc, words) {
+        Err(_) => say_failure(alloc, host, &Failure::OutOfMemory),
+        Ok(None) => say_failure(alloc, host, &Failure::Words),
+        Ok(Some(command)) => match run(alloc, &command, host) {
             Ok(answer) => deliver(alloc, host, &answer),
             Err(failure) => say_failure(alloc, host, &failure),
         },
@@ -146,28 +83,33 @@ pub fn wordless<H: Host>(alloc: Global, host: &mut H) -> u8
 }
 
 /// Runs the command up to the files that are to be put and the text that is to be said.
-fn run<H: Host>(alloc: Global, command: Command<'_>, host: &mut H) -> Result<Answer, Failure>
-    ensures answered { IfOk result (λ answer. (bytes : List ℕ) → named (input_of (request_of command.entry)) (H.told host.old) ≡ Some bytes → IsAnswer (request_of command.entry) bytes answer) }
-    ensures told { IfOk result (λ answer. (bytes : List ℕ) → named (input_of (request_of command.entry)) (H.told host.old) ≡ Some bytes → TellsItsPieces (request_of command.entry) bytes answer) }
-    ensures paths { IfOk result (λ answer. paths answer.files ≡ paths_of (request_of command.entry)) }
-    ensures whole { OnOk result ((bytes : List ℕ) → named (input_of (request_of command.entry)) (H.told host.old) ≡ Some bytes → (H.told host.new).place ≡ Some (length bytes)) }
-    ensures refused { IfErr result (λ failure. (bytes : List ℕ) → named (input_of (request_of command.entry)) (H.told host.old) ≡ Some bytes → IfOfInput (cause_of failure) (IsRefused (request_of command.entry) bytes failure)) }
+fn run<H: Host>(alloc: Global, command: &Command, host: &mut H) -> Result<Answer, Failure>
+    ensures answered { IfOk result (λ answer. (bytes : List ℕ) → named (input_of command.now) (H.told host.old) ≡ Some bytes → IsAnswer command.now bytes answer) }
+    ensures told { IfOk result (λ answer. (bytes : List ℕ) → named (input_of command.now) (H.told host.old) ≡ Some bytes → CarriesHeadline command.now bytes answer) }
+    ensures paths { IfOk result (λ answer. paths answer.files ≡ paths_of command.now) }
+    ensures whole { OnOk result ((bytes : List ℕ) → named (input_of command.now) (H.told host.old) ≡ Some bytes → (H.told host.new).place ≡ Some (length bytes)) }
+    ensures refused { IfErr result (λ failure. (bytes : List ℕ) → named (input_of command.now) (H.told host.old) ≡ Some bytes → IfOfInput (cause_of failure) (IsRefused command.now bytes failure)) }
     ensures met { IfErr result (λ failure. IsMet (cause_of failure)) }
     ensures others { OnlyRead (H.told host.old) (H.told host.new) }
     ensures reads { CountedRead (H.read_faults host.old) (H.read_faults host.new) result }
     ensures puts { H.put_faults host.new ≡ H.put_faults host.old }
     ensures says { H.say_faults host.new ≡ H.say_faults host.old }
     ensures willing { H.willing host.old → H.willing host.new }
-    ensures cause { H.willing host.old → IsSome (named (input_of (request_of command.entry)) (H.told host.old)) → IfRead result ⊥ }
+    ensures cause { H.willing host.old → IsSome (named (input_of command.now) (H.told host.old)) → IfRead result ⊥ }
 {
     match command {
-        Command::Blobs { path } => match blob_list(alloc, path, host) {
+        Command::Blobs { path } => match blob_list(alloc, path.as_str(), host) {
             Ok(text) => Ok(Answer {
                 files: HostFiles::new(alloc),
                 text: Text::from(text),
             }),
             Err(failure) => Err(failure),
         },
-        Command::Build { input, output } => plain_roads(alloc, input, output, host),
+        Command::Build { options } => plain_roads(
+            alloc,
+            options.input.as_str(),
+            options.output.as_str(),
+            host,
+        ),
     }
 }
