@@ -11,12 +11,12 @@ use Rattle.mjolnir_cli.specs.declared.failure.Failure.{Failure}
 use Rattle.mjolnir_cli.specs.declared.failure.Failure.TheVariants.{Words, Read, Put, OutOfMemory}
 use Rattle.mjolnir_cli.specs.declared.words.Command.{Command}
 use Rattle.mjolnir_cli.specs.declared.words.Command.TheVariants.{Blobs, Build}
-use Rattle.mjolnir_cli.specs.Commands.{input_of, paths_of, IsAnswer, IsRefused, Headline, CarriesHeadline, Asks, HasItsInput}
+use Rattle.mjolnir_cli.specs.Commands.{input_of, paths_of, IsAnswer, IsRefused, Headline, CarriesHeadline, Asks}
 use Rattle.mjolnir_cli.specs.Failures.{Cause, OfWords, OfReading, OfPutting, OfBytes, OfLimits, OfMemory, cause_of, status_for, status_of, line_of}
 use Rattle.mjolnir_cli.specs.Puts.{PutsAll, BeginsWith, IsFront, Unput, paths}
 use Rattle.mjolnir_cli.specs.Said.{Adds, SaysLine}
 use Rattle.mjolnir_cli.specs.Listing.{IfOfInput, IfOfReading, IsMet, ReadCount, OnlyRead}
-use Rattle.mjolnir_cli.specs.Ends.{IsTold, HasAnswer, IsDone, IsRefusedWords, IsUnread, IsUnput, IsRefusedFor, HasNoMemory, IsUnsaid, EndsBy, CountsNone, SameCounts, HasCauses, IsComplete, KeepsHeadline}
+use Rattle.mjolnir_cli.specs.Ends.{IsTold, HasAnswer, IsDone, IsRefusedWords, IsUnread, IsUnput, IsRefusedFor, HasNoMemory, IsUnsaid, EndsBy, CountsNone, SameCounts, HasCauses, IsComplete, IsHeardBy, KeepsHeadline, IsEnd}
 use Rattle.mjolnir_cli.proofs.Stored.{puts_after, puts_of_none}
 use Rattle.mjolnir_cli.proofs.Ends.{lists, no_files}
 use Rattle.mjolnir_cli.proofs.OneAnswer.{EndsOneWay, answered, complete, refused_so, says_from, is_read}
@@ -291,10 +291,6 @@ willing_failed mine failure status before mid after ran given never says = recor
   says = says ∙ ran.says;
 }
 
--- the input of the command that is asked for is there
-pub input_there : (asked : Option Command) (mine : Command) (told : Told) → asked ≡ Some mine → HasItsInput asked told → IsSome (named (input_of mine) told)
-input_there asked mine told is there = subst (λ (a : Option Command). HasItsInput a told) is there
-
 -- ---- where nothing is run
 
 unput_of : (failure : Failure) (status : ℕ) (before after : HostState) → Fails failure status before after → Unput before.told after.told
@@ -348,3 +344,50 @@ complete_memoryless asked status before after given command bytes answer asks an
 -- a command with this status isn't done
 pub no_headline : (asked : Option Command) (failure : Failure) (status : ℕ) (before mid after : HostState) → Fails failure status mid after → KeepsHeadline status asked before after
 no_headline asked failure status before mid after given e command bytes asks = absurd (not_done (cause_of failure) status given.statuses e)
+
+-- ---- the four ways together
+
+abbrev pub seen : Told → ℕ → ℕ → ℕ → Type 0 → HostState
+seen told reads puts says willing = record { told = told; read_faults = reads; put_faults = puts; say_faults = says; willing = willing }
+
+pub delivered_end : EndsOneWay → ListsWalks → (mine : Command) (answer : Answer) (status : ℕ) (before mid after : HostState) → RanTo answer mine before mid → Delivers answer status mid after
+    → (before.willing → after.put_faults ≡ mid.put_faults) → (before.willing → after.say_faults ≡ mid.say_faults) → IsEnd status (Some mine) before after
+delivered_end way law mine answer status before mid after ran given puts says = record {
+  ends = ends_delivered (Some mine) mine answer status before mid after refl ran given;
+  causes = causes_delivered way (Some mine) mine answer status before mid after refl ran given;
+  complete = λ command bytes other asks is none. complete_delivered (Some mine) mine answer status before mid after ran given none;
+  willing = λ willing there. record { reads = given.reads ∙ ran.reads; puts = puts willing ∙ ran.puts; says = says willing ∙ ran.says };
+  headline = headline_delivered (Some mine) mine answer status before mid after law refl ran given;
+}
+
+pub failed_end : EndsOneWay → (mine : Command) (failure : Failure) (status : ℕ) (before mid after : HostState) → RanInto failure mine before mid → Fails failure status mid after
+    → (before.willing → IsSome (named (input_of mine) before.told) → IfOfReading (cause_of failure) ⊥) → (before.willing → after.say_faults ≡ mid.say_faults) → IsEnd status (Some mine) before after
+failed_end way mine failure status before mid after ran given never says = record {
+  ends = ends_failed (Some mine) mine failure status before mid after refl ran given;
+  causes = causes_failed way (Some mine) mine failure status before mid after refl ran given;
+  complete = complete_failed way (Some mine) mine failure status before mid after refl ran given;
+  willing = λ willing there. willing_failed mine failure status before mid after ran given (never willing there) (says willing);
+  headline = no_headline (Some mine) failure status before mid after given;
+}
+
+pub wordless_end : (asked : Option Command) (status : ℕ) (before after : HostState) → asked ≡ None → Fails Words status before after → (before.willing → after.say_faults ≡ before.say_faults) → IsEnd status asked before after
+wordless_end asked status before after is given says = record {
+  ends = ends_wordless asked status before after is given;
+  causes = causes_wordless asked status before after is given;
+  complete = complete_wordless asked status before after is;
+  willing = λ willing there. record { reads = given.reads; puts = given.puts; says = says willing };
+  headline = no_headline asked Words status before before after given;
+}
+
+pub memoryless_end : (asked : Option Command) (status : ℕ) (before after : HostState) → Fails OutOfMemory status before after → (before.willing → after.say_faults ≡ before.say_faults) → IsEnd status asked before after
+memoryless_end asked status before after given says = record {
+  ends = ends_memoryless asked status before after given;
+  causes = causes_memoryless asked status before after given;
+  complete = complete_memoryless asked status before after given;
+  willing = λ willing there. record { reads = given.reads; puts = given.puts; says = says willing };
+  headline = no_headline asked OutOfMemory status before before after given;
+}
+
+-- an end of the command that is asked for
+pub asked_end : (mine : Command) (asked : Option Command) (status : ℕ) (before after : HostState) → Some mine ≡ asked → IsEnd status (Some mine) before after → IsEnd status asked before after
+asked_end mine asked status before after is end = subst (λ (a : Option Command). IsEnd status a before after) is end

@@ -8,7 +8,7 @@ use Rattle.mjolnir_cli.specs.declared.answer.Answer.{Answer}
 use Rattle.mjolnir_cli.specs.declared.failure.Failure.{Failure}
 use Rattle.mjolnir_cli.specs.declared.failure.Failure.TheVariants.{Words, Read, Put, OutOfMemory}
 use Rattle.mjolnir_cli.specs.declared.words.Command.{Command}
-use Rattle.mjolnir_cli.specs.Commands.{input_of, paths_of, IsAnswer, IsRefused, Headline, Asks}
+use Rattle.mjolnir_cli.specs.Commands.{input_of, paths_of, IsAnswer, IsRefused, Headline, Asks, HasItsInput}
 use Rattle.mjolnir_cli.specs.Failures.{Cause, OfBytes, OfLimits, cause_of, status_of, line_of}
 use Rattle.mjolnir_cli.specs.Puts.{PutsAll, BeginsWith, IsFront, Unput, paths}
 use Rattle.mjolnir_cli.specs.Said.{Adds, SaysLine}
@@ -137,3 +137,15 @@ IsComplete status asked before after =
 abbrev pub KeepsHeadline : ℕ → Option Command → HostState → HostState → Type 0
 KeepsHeadline status asked before after =
     status ≡ 0 → (command : Command) (bytes : List ℕ) → Asks asked before.told command bytes → Headline command bytes after.told
+
+-- A willing host that has the file which the command opens counts no fault.
+abbrev pub IsHeardBy : Option Command → HostState → HostState → Type 0
+IsHeardBy asked before after = before.willing → HasItsInput asked before.told → SameCounts before after
+
+-- all of it
+pub record IsEnd (status : ℕ) (asked : Option Command) (before after : HostState) : Type 0 where
+  pub ends : EndsBy status asked before after
+  pub causes : HasCauses status asked before after
+  pub complete : IsComplete status asked before after
+  pub willing : IsHeardBy asked before after
+  pub headline : KeepsHeadline status asked before after

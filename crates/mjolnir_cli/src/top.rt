@@ -4,8 +4,8 @@ ghost use Rattle.std.specs.Prelude.{◌≡◌, ◌⊎◌, ℕ, List, map, length
 ghost use Rattle.std.specs.String.{string_bytes};
 ghost use Rattle.host_port.specs.Told.{named};
 ghost use Rattle.mjolnir_cli.specs.declared.failure.Failure.TheVariants.{OutOfMemory};
-ghost use Rattle.mjolnir_cli.specs.Commands.{command_asked, input_of, paths_of, IsAnswer, IsRefused, CarriesHeadline, HasItsInput};
-ghost use Rattle.mjolnir_cli.specs.Ends.{IsStatus, EndsBy, HasCauses, IsComplete, SameCounts, KeepsHeadline};
+ghost use Rattle.mjolnir_cli.specs.Commands.{command_asked, input_of, paths_of, IsAnswer, IsRefused, CarriesHeadline};
+ghost use Rattle.mjolnir_cli.specs.Ends.{IsStatus, EndsBy, HasCauses, IsComplete, IsHeardBy, KeepsHeadline, IsEnd};
 ghost use Rattle.mjolnir_cli.specs.Failures.{cause_of, line_of};
 ghost use Rattle.mjolnir_cli.specs.Listing.{IfOfInput, IsMet, CountedRead, IfRead, OnlyRead};
 ghost use Rattle.mjolnir_cli.specs.Puts.{paths};
@@ -54,19 +54,27 @@ pub fn mjolnir<R: Threads + Sync, H: Host, G: Gate>(
     ensures causes { HasCauses result (command_asked (map string_bytes words.now)) (record { told = H.told host.old; read_faults = H.read_faults host.old; put_faults = H.put_faults host.old; say_faults = H.say_faults host.old; willing = H.willing host.old }) (record { told = H.told host.new; read_faults = H.read_faults host.new; put_faults = H.put_faults host.new; say_faults = H.say_faults host.new; willing = H.willing host.new }) }
     ensures complete { IsComplete result (command_asked (map string_bytes words.now)) (record { told = H.told host.old; read_faults = H.read_faults host.old; put_faults = H.put_faults host.old; say_faults = H.say_faults host.old; willing = H.willing host.old }) (record { told = H.told host.new; read_faults = H.read_faults host.new; put_faults = H.put_faults host.new; say_faults = H.say_faults host.new; willing = H.willing host.new }) }
     // A willing host that has the file which the command opens counts no fault.
-    ensures willing { H.willing host.old → HasItsInput (command_asked (map string_bytes words.now)) (H.told host.old) → SameCounts (record { told = H.told host.old; read_faults = H.read_faults host.old; put_faults = H.put_faults host.old; say_faults = H.say_faults host.old; willing = H.willing host.old }) (record { told = H.told host.new; read_faults = H.read_faults host.new; put_faults = H.put_faults host.new; say_faults = H.say_faults host.new; willing = H.willing host.new }) }
+    ensures willing { IsHeardBy (command_asked (map string_bytes words.now)) (record { told = H.told host.old; read_faults = H.read_faults host.old; put_faults = H.put_faults host.old; say_faults = H.say_faults host.old; willing = H.willing host.old }) (record { told = H.told host.new; read_faults = H.read_faults host.new; put_faults = H.put_faults host.new; say_faults = H.say_faults host.new; willing = H.willing host.new }) }
     // What a command that is done promises beside its answer.
     ensures headline { KeepsHeadline result (command_asked (map string_bytes words.now)) (record { told = H.told host.old; read_faults = H.read_faults host.old; put_faults = H.put_faults host.old; say_faults = H.say_faults host.old; willing = H.willing host.old }) (record { told = H.told host.new; read_faults = H.read_faults host.new; put_faults = H.put_faults host.new; say_faults = H.say_faults host.new; willing = H.willing host.new }) }
 {
+    match asked(alloc, words) {
+        Ok(Some(command)) => obey(alloc, &command, host),
+        Ok(None) => say_failure(alloc, host, &Failure::Words),
+        Err(_) => say_failure(alloc, host, &Failure::OutOfMemory),
+    }
+}
+
+/// Runs the command, puts its files and says its text, or says the line of the failure. Answers the status.
+fn obey<H: Host>(alloc: Global, command: &Command, host: &mut H) -> u8
+    ensures statuses { IsStatus result }
+    ensures end { IsEnd result (Some command.now) (record { told = H.told host.old; read_faults = H.read_faults host.old; put_faults = H.put_faults host.old; say_faults = H.say_faults host.old; willing = H.willing host.old }) (record { told = H.told host.new; read_faults = H.read_faults host.new; put_faults = H.put_faults host.new; say_faults = H.say_faults host.new; willing = H.willing host.new }) }
+{
     list_agrees();
     one_end();
-    match asked(alloc, words) {
-        Err(_) => say_failure(alloc, host, &Failure::OutOfMemory),
-        Ok(None) => say_failure(alloc, host, &Failure::Words),
-        Ok(Some(command)) => match run(alloc, &command, host) {
-            Ok(answer) => deliver(alloc, host, &answer),
-            Err(failure) => say_failure(alloc, host, &failure),
-        },
+    match run(alloc, command, host) {
+        Ok(answer) => deliver(alloc, host, &answer),
+        Err(failure) => say_failure(alloc, host, &failure),
     }
 }
 
