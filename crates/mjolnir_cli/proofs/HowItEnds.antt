@@ -16,7 +16,7 @@ use Rattle.mjolnir_cli.specs.Failures.{Cause, OfWords, OfReading, OfPutting, OfB
 use Rattle.mjolnir_cli.specs.Puts.{PutsAll, BeginsWith, IsFront, Unput, paths}
 use Rattle.mjolnir_cli.specs.Said.{Adds, SaysLine}
 use Rattle.mjolnir_cli.specs.Listing.{IfOfInput, IfOfReading, IsMet, ReadCount, OnlyRead}
-use Rattle.mjolnir_cli.specs.Ends.{IsTold, HasAnswer, IsDone, IsRefusedWords, IsUnread, IsUnput, IsRefusedFor, HasNoMemory, IsUnsaid, EndsBy, CountsNone, SameCounts, HasCauses, IsComplete, IsHeardBy, KeepsHeadline, IsEnd}
+use Rattle.mjolnir_cli.specs.Ends.{SaysItsLine, HasAnswer, IsDone, IsRefusedWords, IsUnread, IsUnput, IsRefusedFor, HasNoMemory, IsUnsaid, EndsBy, CountsNone, SameCounts, HasCauses, IsComplete, IsHeardBy, KeepsHeadline, IsEnd}
 use Rattle.mjolnir_cli.proofs.Stored.{puts_after, puts_of_none}
 use Rattle.mjolnir_cli.proofs.Ends.{lists, no_files}
 use Rattle.mjolnir_cli.proofs.OneAnswer.{EndsOneWay, answered, complete, refused_so, says_from, is_read}
@@ -33,7 +33,7 @@ pub record Delivers (answer : Answer) (status : ℕ) (before after : HostState) 
   pub said : status ≡ 0 → Adds answer.text before.told after.told
   pub put : status ≡ 4 → Rose before.put_faults after.put_faults
   pub put_only : status ≢ 4 → status ≢ 7 → after.put_faults ≡ before.put_faults
-  pub put_line : status ≡ 4 → IsTold Put before after
+  pub put_line : status ≡ 4 → SaysItsLine Put before after
   pub put_front : status ≡ 4 → (front : List (List ℕ × List ℕ)) × IsFront front answer.files × PutsAll front before.told after.told
   pub memory : status ≡ 7 → Adds (line_of OutOfMemory) before.told after.told ⊎ (after.told.said ≡ before.told.said)
   pub memory_front : status ≡ 7 → (front : List (List ℕ × List ℕ)) × BeginsWith front answer.files × PutsAll front before.told after.told
@@ -48,7 +48,7 @@ pub record Delivers (answer : Answer) (status : ℕ) (before after : HostState) 
 
 -- a command that was run to its answer: it read, and did nothing else
 pub record RanTo (answer : Answer) (mine : Command) (before mid : HostState) : Type 0 where
-  pub answered : (bytes : List ℕ) → named (input_of mine) before.told ≡ Some bytes → IsAnswer mine bytes answer
+  pub is_answer : (bytes : List ℕ) → named (input_of mine) before.told ≡ Some bytes → IsAnswer mine bytes answer
   pub carries : (bytes : List ℕ) → named (input_of mine) before.told ≡ Some bytes → CarriesHeadline mine bytes answer
   pub paths_are : paths answer.files ≡ paths_of mine
   pub whole : (bytes : List ℕ) → named (input_of mine) before.told ≡ Some bytes → mid.told.place ≡ Some (length bytes)
@@ -58,17 +58,17 @@ pub record RanTo (answer : Answer) (mine : Command) (before mid : HostState) : T
   pub says : mid.say_faults ≡ before.say_faults
 
 not_delivered : (status other : ℕ) → (0 ≡ other → ⊥) → (4 ≡ other → ⊥) → (7 ≡ other → ⊥) → (9 ≡ other → ⊥) → (status ≡ 0) ⊎ (status ≡ 4) ⊎ (status ≡ 7) ⊎ (status ≡ 9) → status ≡ other → ⊥
-not_delivered status other zero four seven nine (inl is) e = zero (sym is ∙ e)
-not_delivered status other zero four seven nine (inr (inl is)) e = four (sym is ∙ e)
-not_delivered status other zero four seven nine (inr (inr (inl is))) e = seven (sym is ∙ e)
-not_delivered status other zero four seven nine (inr (inr (inr is))) e = nine (sym is ∙ e)
+not_delivered status other at_zero four seven nine (inl is) e = at_zero (sym is ∙ e)
+not_delivered status other at_zero four seven nine (inr (inl is)) e = four (sym is ∙ e)
+not_delivered status other at_zero four seven nine (inr (inr (inl is))) e = seven (sym is ∙ e)
+not_delivered status other at_zero four seven nine (inr (inr (inr is))) e = nine (sym is ∙ e)
 
 -- what was said or not said after the reading was so from the start
 memory_from : (text : List ℕ) (before mid after : HostState) → mid.told.said ≡ before.told.said → Adds text mid.told after.told ⊎ (after.told.said ≡ mid.told.said) → Adds text before.told after.told ⊎ (after.told.said ≡ before.told.said)
 memory_from text before mid after same (inl adds) = inl (adds ∙ ap (option_map (λ said. said ++ text)) same)
 memory_from text before mid after same (inr lost) = inr (lost ∙ same)
 
-told_from : (failure : Failure) (before mid after : HostState) → mid.told.said ≡ before.told.said → mid.say_faults ≡ before.say_faults → IsTold failure mid after → IsTold failure before after
+told_from : (failure : Failure) (before mid after : HostState) → mid.told.said ≡ before.told.said → mid.say_faults ≡ before.say_faults → SaysItsLine failure mid after → SaysItsLine failure before after
 told_from failure before mid after same counted told = says_from (line_of failure) before.told mid.told after.told before.say_faults mid.say_faults after.say_faults same counted told
 
 rose_from : (first before now : ℕ) → before ≡ first → Rose before now → Rose first now
@@ -79,7 +79,7 @@ unput_from before mid after files puts unput = record { files = unput.files ∙ 
 
 pub ends_delivered : (asked : Option Command) (mine : Command) (answer : Answer) (status : ℕ) (before mid after : HostState) → asked ≡ Some mine → RanTo answer mine before mid → Delivers answer status mid after → EndsBy status asked before after
 ends_delivered asked mine answer status before mid after is ran given =
-    let has : HasAnswer asked before answer = record { command = mine; command_is = is; is = ran.answered; paths_are = ran.paths_are } in
+    let has : HasAnswer asked before answer = record { command = mine; command_is = is; is = ran.is_answer; paths_are = ran.paths_are } in
     let put_from : (files : List (List ℕ × List ℕ)) → PutsAll files mid.told after.told → PutsAll files before.told after.told =
     λ files puts. puts_after files before.told mid.told after.told ran.others.files ran.others.puts puts in
     record {
@@ -127,7 +127,7 @@ causes_delivered way asked mine answer status before mid after is ran given = re
   fileless = λ command command_is none.
       let still = given.none (no_files asked mine command answer.files is command_is ran.paths_are none) in
       (unput_from before.told mid.told after.told ran.others.files ran.others.puts still.0, still.1 ∙ ran.puts);
-  refusing = λ command bytes failure asks refused unread. absurd (answered way asked before.told mine command bytes answer failure is ran.answered asks refused);
+  refusing = λ command bytes failure asks refused unread. absurd (answered way asked before.told mine command bytes answer failure is ran.is_answer asks refused);
   saying = λ e. given.say_only e ∙ ran.says;
 }
 
@@ -150,7 +150,7 @@ headline_delivered asked mine answer status before mid after law is ran given e 
 -- what is left when the line of a failure was said, or lost
 pub record Fails (failure : Failure) (status : ℕ) (before after : HostState) : Type 0 where
   pub statuses : (status ≡ status_of failure) ⊎ (status ≡ 7)
-  pub line : status ≢ 7 → IsTold failure before after
+  pub line : status ≢ 7 → SaysItsLine failure before after
   pub memory : status ≡ 7 → Adds (line_of OutOfMemory) before.told after.told ⊎ (after.told.said ≡ before.told.said)
   pub files : after.told.files ≡ before.told.files
   pub put_paths : after.told.puts ≡ before.told.puts
@@ -175,8 +175,8 @@ by_one : (expected status : ℕ) (asked : Option Command) (before after : HostSt
     → (expected ≡ 2 → status ≡ 2 → IsRefusedWords asked before after) → (expected ≡ 3 → status ≡ 3 → IsUnread before after)
     → (expected ≡ 5 → status ≡ 5 → IsRefusedFor OfBytes asked before after) → (expected ≡ 6 → status ≡ 6 → IsRefusedFor OfLimits asked before after)
     → (status ≡ 7 → HasNoMemory asked before after) → EndsBy status asked before after
-by_one expected status asked before after ends zero four nine two three five six seven = record {
-  done = λ e. absurd (at 0 ⊥ (λ z. omega arith) (λ z s. zero z) ends e);
+by_one expected status asked before after ends at_zero four nine two three five six seven = record {
+  done = λ e. absurd (at 0 ⊥ (λ z. omega arith) (λ z s. at_zero z) ends e);
   refused_words = λ e. at 2 (IsRefusedWords asked before after) (λ z. omega arith) two ends e;
   unread = λ e. at 3 (IsUnread before after) (λ z. omega arith) three ends e;
   unput = λ e. absurd (at 4 ⊥ (λ z. omega arith) (λ z s. four z) ends e);
@@ -206,7 +206,7 @@ ends_failed asked mine failure status before mid after is ran given = by (cause_
     unput : Unput before.told after.told
     unput = unput_failed failure mine status before mid after ran given
 
-    line : (number : ℕ) → (7 ≡ number → ⊥) → status ≡ number → IsTold failure before after
+    line : (number : ℕ) → (7 ≡ number → ⊥) → status ≡ number → SaysItsLine failure before after
     line number other e = told_from failure before mid after ran.others.said ran.says (given.line (not_seven status number other e))
 
     memory : status ≡ 7 → HasNoMemory asked before after
@@ -223,7 +223,7 @@ ends_failed asked mine failure status before mid after is ran given = by (cause_
         (λ z s. record {
           counted = subst (λ (n : ℕ). Rose before.read_faults n) (sym given.reads) counted;
           unput = unput;
-          line = subst (λ (f : Failure). IsTold f before after) (is_read failure cause_is) (line 3 (λ e. omega arith) s);
+          line = subst (λ (f : Failure). SaysItsLine f before after) (is_read failure cause_is) (line 3 (λ e. omega arith) s);
         })
         (λ z s. absurd (omega arith)) (λ z s. absurd (omega arith)) memory
     by OfBytes cause_is met refused counted =
@@ -252,13 +252,13 @@ counted_by OfMemory status before mid ends counted three seven = counted
 
 -- no failure has the status of what is done
 not_done : (cause : Cause) (status : ℕ) → (status ≡ status_for cause) ⊎ (status ≡ 7) → status ≡ 0 → ⊥
-not_done cause status (inr e) zero = omega arith
-not_done OfWords status (inl e) zero = omega arith
-not_done OfReading status (inl e) zero = omega arith
-not_done OfPutting status (inl e) zero = omega arith
-not_done OfBytes status (inl e) zero = omega arith
-not_done OfLimits status (inl e) zero = omega arith
-not_done OfMemory status (inl e) zero = omega arith
+not_done cause status (inr e) at_zero = omega arith
+not_done OfWords status (inl e) at_zero = omega arith
+not_done OfReading status (inl e) at_zero = omega arith
+not_done OfPutting status (inl e) at_zero = omega arith
+not_done OfBytes status (inl e) at_zero = omega arith
+not_done OfLimits status (inl e) at_zero = omega arith
+not_done OfMemory status (inl e) at_zero = omega arith
 
 pub causes_failed : EndsOneWay → (asked : Option Command) (mine : Command) (failure : Failure) (status : ℕ) (before mid after : HostState) → asked ≡ Some mine → RanInto failure mine before mid → Fails failure status mid after → HasCauses status asked before after
 causes_failed way asked mine failure status before mid after is ran given = record {

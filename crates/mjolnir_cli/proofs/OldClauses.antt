@@ -16,7 +16,7 @@ use Rattle.mjolnir_cli.specs.Commands.BuildCommand.{ListsRoads, list_path}
 use Rattle.mjolnir_cli.specs.Failures.{Cause, OfBytes, OfLimits, status_for, status_of, line_of}
 use Rattle.mjolnir_cli.specs.Puts.{PutsAll, BeginsWith, IsFront, Unput}
 use Rattle.mjolnir_cli.specs.Said.{Adds}
-use Rattle.mjolnir_cli.specs.Ends.{IsTold, HasAnswer, IsRefusedFor, EndsBy, HasCauses, IsComplete, KeepsHeadline, SameCounts}
+use Rattle.mjolnir_cli.specs.Ends.{SaysItsLine, HasAnswer, IsRefusedFor, EndsBy, HasCauses, IsComplete, KeepsHeadline, SameCounts}
 use Rattle.mjolnir_cli.proofs.OneAnswer.{of_asked}
 
 some_is_some : {A : Type 0} (o : Option A) (a : A) → o ≡ Some a → IsSome o
@@ -64,7 +64,7 @@ old_words status asked before after ends e = (ends.refused_words e).nothing
 old_words_only : (status : ℕ) (asked : Option Command) (before after : HostState) → HasCauses status asked before after → asked ≡ None → (status ≡ 2) ⊎ (status ≡ 7)
 old_words_only status asked before after causes none = causes.words none
 
-old_words_line : (status : ℕ) (asked : Option Command) (before after : HostState) → EndsBy status asked before after → status ≡ 2 → IsTold Words before after
+old_words_line : (status : ℕ) (asked : Option Command) (before after : HostState) → EndsBy status asked before after → status ≡ 2 → SaysItsLine Words before after
 old_words_line status asked before after ends e = (ends.refused_words e).line
 
 -- ---- 3
@@ -75,7 +75,7 @@ old_read status asked before after ends e = (ends.unread e).counted
 old_read_only : (status : ℕ) (asked : Option Command) (before after : HostState) → HasCauses status asked before after → status ≢ 3 → status ≢ 7 → after.read_faults ≡ before.read_faults
 old_read_only status asked before after causes three seven = causes.reading three seven
 
-old_read_line : (status : ℕ) (asked : Option Command) (before after : HostState) → EndsBy status asked before after → status ≡ 3 → IsTold Read before after
+old_read_line : (status : ℕ) (asked : Option Command) (before after : HostState) → EndsBy status asked before after → status ≡ 3 → SaysItsLine Read before after
 old_read_line status asked before after ends e = (ends.unread e).line
 
 -- ---- 4
@@ -86,7 +86,7 @@ old_put status asked before after ends e = (ends.unput e).counted
 old_put_only : (status : ℕ) (asked : Option Command) (before after : HostState) → HasCauses status asked before after → status ≢ 4 → status ≢ 7 → after.put_faults ≡ before.put_faults
 old_put_only status asked before after causes four seven = causes.putting four seven
 
-old_put_line : (status : ℕ) (asked : Option Command) (before after : HostState) → EndsBy status asked before after → status ≡ 4 → IsTold Put before after
+old_put_line : (status : ℕ) (asked : Option Command) (before after : HostState) → EndsBy status asked before after → status ≡ 4 → SaysItsLine Put before after
 old_put_line status asked before after ends e = (ends.unput e).line
 
 old_put_front : (status : ℕ) (asked : Option Command) (before after : HostState) → EndsBy status asked before after → status ≡ 4
@@ -98,12 +98,12 @@ old_put_front status asked before after ends e =
 -- ---- 5 and 6
 
 refused_for : (cause : Cause) (asked : Option Command) (before after : HostState) → IsRefusedFor cause asked before after
-    → (failure : Failure) × (status_of failure ≡ status_for cause) × IsTold failure before after × ((command : Command) (bytes : List ℕ) → Asks asked before.told command bytes → IsRefused command bytes failure)
+    → (failure : Failure) × (status_of failure ≡ status_for cause) × SaysItsLine failure before after × ((command : Command) (bytes : List ℕ) → Asks asked before.told command bytes → IsRefused command bytes failure)
 refused_for cause asked before after r =
     (r.failure, ap status_for r.cause_is, r.line, λ command bytes asks. of_asked (λ c bs. IsRefused c bs r.failure) asked before.told r.command command bytes r.command_is r.is asks)
 
 old_refused : (status : ℕ) (asked : Option Command) (before after : HostState) → EndsBy status asked before after → (status ≡ 5) ⊎ (status ≡ 6)
-    → (failure : Failure) × (status_of failure ≡ status) × IsTold failure before after × ((command : Command) (bytes : List ℕ) → Asks asked before.told command bytes → IsRefused command bytes failure)
+    → (failure : Failure) × (status_of failure ≡ status) × SaysItsLine failure before after × ((command : Command) (bytes : List ℕ) → Asks asked before.told command bytes → IsRefused command bytes failure)
 old_refused status asked before after ends (inl e) =
     let r = refused_for OfBytes asked before after (ends.refused e) in
     (r.0, r.1 ∙ sym e, r.2, r.3)

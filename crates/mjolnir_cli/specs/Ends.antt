@@ -19,8 +19,8 @@ IsStatus status =
     (status ≡ 0) ⊎ (status ≡ 2) ⊎ (status ≡ 3) ⊎ (status ≡ 4) ⊎ (status ≡ 5) ⊎ (status ≡ 6) ⊎ (status ≡ 7) ⊎ (status ≡ 9)
 
 -- The line of this failure was said; or, only where a fault of saying was counted, nothing was.
-abbrev pub IsTold : Failure → HostState → HostState → Type 0
-IsTold failure before after = SaysLine (line_of failure) before.told after.told before.say_faults after.say_faults
+abbrev pub SaysItsLine : Failure → HostState → HostState → Type 0
+SaysItsLine failure before after = SaysLine (line_of failure) before.told after.told before.say_faults after.say_faults
 
 -- The words ask for a command, and this is its answer for the bytes of its input.
 pub record HasAnswer (asked : Option Command) (before : HostState) (answer : Answer) : Type 0 where
@@ -43,13 +43,13 @@ pub record IsDone (asked : Option Command) (before after : HostState) : Type 0 w
 pub record IsRefusedWords (asked : Option Command) (before after : HostState) : Type 0 where
   pub nothing : asked ≡ None
   pub unput : Unput before.told after.told
-  pub line : IsTold Words before after
+  pub line : SaysItsLine Words before after
 
 -- 3: a fault of reading was counted.
 pub record IsUnread (before after : HostState) : Type 0 where
   pub counted : Rose before.read_faults after.read_faults
   pub unput : Unput before.told after.told
-  pub line : IsTold Read before after
+  pub line : SaysItsLine Read before after
 
 -- 4: a fault of putting was counted. The files that were put are the first of the answer's, and not all.
 pub record IsUnput (asked : Option Command) (before after : HostState) : Type 0 where
@@ -59,7 +59,7 @@ pub record IsUnput (asked : Option Command) (before after : HostState) : Type 0 
   pub front : List (List ℕ × List ℕ)
   pub is_front : IsFront front answer.files
   pub puts : PutsAll front before.told after.told
-  pub line : IsTold Put before after
+  pub line : SaysItsLine Put before after
 
 -- 5 and 6: the bytes of the command's input are refused, with a failure of this cause.
 pub record IsRefusedFor (cause : Cause) (asked : Option Command) (before after : HostState) : Type 0 where
@@ -69,7 +69,7 @@ pub record IsRefusedFor (cause : Cause) (asked : Option Command) (before after :
   pub command_is : asked ≡ Some command
   pub is : (bytes : List ℕ) → named (input_of command) before.told ≡ Some bytes → IsRefused command bytes failure
   pub unput : Unput before.told after.told
-  pub line : IsTold failure before after
+  pub line : SaysItsLine failure before after
 
 -- 7: there was no memory. Its own line was said, or nothing; no file was put, or the first of the answer's, perhaps all.
 pub record HasNoMemory (asked : Option Command) (before after : HostState) : Type 0 where

@@ -6,7 +6,7 @@ pub returns-in-Ok-clause-end : goal.returns-in-Ok-clause-end
 returns-in-Ok-clause-end g c =
     delivered_end c.one_end.ensures c.list_agrees.ensures c.args.command.now c.in-Ok.answer c.deliver.result (seen (g.H.Host.told c.args.host.now) (g.H.Host.read_faults c.args.host.now) (g.H.Host.put_faults c.args.host.now) (g.H.Host.say_faults c.args.host.now) (g.H.Host.willing c.args.host.now)) (seen (g.H.Host.told c.run.new.host) (g.H.Host.read_faults c.run.new.host) (g.H.Host.put_faults c.run.new.host) (g.H.Host.say_faults c.run.new.host) (g.H.Host.willing c.run.new.host)) (seen (g.H.Host.told c.deliver.new.host) (g.H.Host.read_faults c.deliver.new.host) (g.H.Host.put_faults c.deliver.new.host) (g.H.Host.say_faults c.deliver.new.host) (g.H.Host.willing c.deliver.new.host))
     (record {
-      answered = c.in-Ok.ensures.answered;
+      is_answer = c.in-Ok.ensures.answered;
       carries = c.in-Ok.ensures.told;
       paths_are = c.in-Ok.ensures.paths;
       whole = c.in-Ok.ensures.whole;
