@@ -11,8 +11,8 @@ returns-in-Ok-Some-clause-ends g c =
 
 pub returns-in-Ok-None-clause-ends : goal.returns-in-Ok-None-clause-ends
 returns-in-Ok-None-clause-ends g c =
-    (wordless_end _ c.say_failure-in-Ok-None.result (seen (g.H.Host.told c.args.host.now) (g.H.Host.read_faults c.args.host.now) (g.H.Host.put_faults c.args.host.now) (g.H.Host.say_faults c.args.host.now) (g.H.Host.willing c.args.host.now)) (seen (g.H.Host.told c.say_failure-in-Ok-None.new.host) (g.H.Host.read_faults c.say_failure-in-Ok-None.new.host) (g.H.Host.put_faults c.say_failure-in-Ok-None.new.host) (g.H.Host.say_faults c.say_failure-in-Ok-None.new.host) (g.H.Host.willing c.say_failure-in-Ok-None.new.host)) (sym c.in-Ok-None.ensures ∙ c.in-Ok-None.field-0-is)
-    (record { statuses = c.say_failure-in-Ok-None.ensures.status; line = c.say_failure-in-Ok-None.ensures.line; memory = c.say_failure-in-Ok-None.ensures.memory; files = c.say_failure-in-Ok-None.ensures.others.files; put_paths = c.say_failure-in-Ok-None.ensures.others.puts; reads = c.say_failure-in-Ok-None.ensures.reads; puts = c.say_failure-in-Ok-None.ensures.puts }) c.say_failure-in-Ok-None.ensures.willing).ends
+    (wordless_end _ c.say_failure.result (seen (g.H.Host.told c.args.host.now) (g.H.Host.read_faults c.args.host.now) (g.H.Host.put_faults c.args.host.now) (g.H.Host.say_faults c.args.host.now) (g.H.Host.willing c.args.host.now)) (seen (g.H.Host.told c.say_failure.new.host) (g.H.Host.read_faults c.say_failure.new.host) (g.H.Host.put_faults c.say_failure.new.host) (g.H.Host.say_faults c.say_failure.new.host) (g.H.Host.willing c.say_failure.new.host)) (sym c.in-Ok-None.ensures ∙ c.in-Ok-None.field-0-is)
+    (record { statuses = c.say_failure.ensures.status; line = c.say_failure.ensures.line; memory = c.say_failure.ensures.memory; files = c.say_failure.ensures.others.files; put_paths = c.say_failure.ensures.others.puts; reads = c.say_failure.ensures.reads; puts = c.say_failure.ensures.puts }) c.say_failure.ensures.willing).ends
 
 pub returns-in-Err-clause-ends : goal.returns-in-Err-clause-ends
 returns-in-Err-clause-ends g c =
@@ -24,8 +24,8 @@ returns-in-Ok-Some-clause-causes g c =
 
 pub returns-in-Ok-None-clause-causes : goal.returns-in-Ok-None-clause-causes
 returns-in-Ok-None-clause-causes g c =
-    (wordless_end _ c.say_failure-in-Ok-None.result (seen (g.H.Host.told c.args.host.now) (g.H.Host.read_faults c.args.host.now) (g.H.Host.put_faults c.args.host.now) (g.H.Host.say_faults c.args.host.now) (g.H.Host.willing c.args.host.now)) (seen (g.H.Host.told c.say_failure-in-Ok-None.new.host) (g.H.Host.read_faults c.say_failure-in-Ok-None.new.host) (g.H.Host.put_faults c.say_failure-in-Ok-None.new.host) (g.H.Host.say_faults c.say_failure-in-Ok-None.new.host) (g.H.Host.willing c.say_failure-in-Ok-None.new.host)) (sym c.in-Ok-None.ensures ∙ c.in-Ok-None.field-0-is)
-    (record { statuses = c.say_failure-in-Ok-None.ensures.status; line = c.say_failure-in-Ok-None.ensures.line; memory = c.say_failure-in-Ok-None.ensures.memory; files = c.say_failure-in-Ok-None.ensures.others.files; put_paths = c.say_failure-in-Ok-None.ensures.others.puts; reads = c.say_failure-in-Ok-None.ensures.reads; puts = c.say_failure-in-Ok-None.ensures.puts }) c.say_failure-in-Ok-None.ensures.willing).causes
+    (wordless_end _ c.say_failure.result (seen (g.H.Host.told c.args.host.now) (g.H.Host.read_faults c.args.host.now) (g.H.Host.put_faults c.args.host.now) (g.H.Host.say_faults c.args.host.now) (g.H.Host.willing c.args.host.now)) (seen (g.H.Host.told c.say_failure.new.host) (g.H.Host.read_faults c.say_failure.new.host) (g.H.Host.put_faults c.say_failure.new.host) (g.H.Host.say_faults c.say_failure.new.host) (g.H.Host.willing c.say_failure.new.host)) (sym c.in-Ok-None.ensures ∙ c.in-Ok-None.field-0-is)
+    (record { statuses = c.say_failure.ensures.status; line = c.say_failure.ensures.line; memory = c.say_failure.ensures.memory; files = c.say_failure.ensures.others.files; put_paths = c.say_failure.ensures.others.puts; reads = c.say_failure.ensures.reads; puts = c.say_failure.ensures.puts }) c.say_failure.ensures.willing).causes
 
 pub returns-in-Err-clause-causes : goal.returns-in-Err-clause-causes
 returns-in-Err-clause-causes g c =
@@ -37,8 +37,8 @@ returns-in-Ok-Some-clause-complete g c =
 
 pub returns-in-Ok-None-clause-complete : goal.returns-in-Ok-None-clause-complete
 returns-in-Ok-None-clause-complete g c =
-    (wordless_end _ c.say_failure-in-Ok-None.result (seen (g.H.Host.told c.args.host.now) (g.H.Host.read_faults c.args.host.now) (g.H.Host.put_faults c.args.host.now) (g.H.Host.say_faults c.args.host.now) (g.H.Host.willing c.args.host.now)) (seen (g.H.Host.told c.say_failure-in-Ok-None.new.host) (g.H.Host.read_faults c.say_failure-in-Ok-None.new.host) (g.H.Host.put_faults c.say_failure-in-Ok-None.new.host) (g.H.Host.say_faults c.say_failure-in-Ok-None.new.host) (g.H.Host.willing c.say_failure-in-Ok-None.new.host)) (sym c.in-Ok-None.ensures ∙ c.in-Ok-None.field-0-is)
-    (record { statuses = c.say_failure-in-Ok-None.ensures.status; line = c.say_failure-in-Ok-None.ensures.line; memory = c.say_failure-in-Ok-None.ensures.memory; files = c.say_failure-in-Ok-None.ensures.others.files; put_paths = c.say_failure-in-Ok-None.ensures.others.puts; reads = c.say_failure-in-Ok-None.ensures.reads; puts = c.say_failure-in-Ok-None.ensures.puts }) c.say_failure-in-Ok-None.ensures.willing).complete
+    (wordless_end _ c.say_failure.result (seen (g.H.Host.told c.args.host.now) (g.H.Host.read_faults c.args.host.now) (g.H.Host.put_faults c.args.host.now) (g.H.Host.say_faults c.args.host.now) (g.H.Host.willing c.args.host.now)) (seen (g.H.Host.told c.say_failure.new.host) (g.H.Host.read_faults c.say_failure.new.host) (g.H.Host.put_faults c.say_failure.new.host) (g.H.Host.say_faults c.say_failure.new.host) (g.H.Host.willing c.say_failure.new.host)) (sym c.in-Ok-None.ensures ∙ c.in-Ok-None.field-0-is)
+    (record { statuses = c.say_failure.ensures.status; line = c.say_failure.ensures.line; memory = c.say_failure.ensures.memory; files = c.say_failure.ensures.others.files; put_paths = c.say_failure.ensures.others.puts; reads = c.say_failure.ensures.reads; puts = c.say_failure.ensures.puts }) c.say_failure.ensures.willing).complete
 
 pub returns-in-Err-clause-complete : goal.returns-in-Err-clause-complete
 returns-in-Err-clause-complete g c =
@@ -50,8 +50,8 @@ returns-in-Ok-Some-clause-willing g c =
 
 pub returns-in-Ok-None-clause-willing : goal.returns-in-Ok-None-clause-willing
 returns-in-Ok-None-clause-willing g c =
-    (wordless_end _ c.say_failure-in-Ok-None.result (seen (g.H.Host.told c.args.host.now) (g.H.Host.read_faults c.args.host.now) (g.H.Host.put_faults c.args.host.now) (g.H.Host.say_faults c.args.host.now) (g.H.Host.willing c.args.host.now)) (seen (g.H.Host.told c.say_failure-in-Ok-None.new.host) (g.H.Host.read_faults c.say_failure-in-Ok-None.new.host) (g.H.Host.put_faults c.say_failure-in-Ok-None.new.host) (g.H.Host.say_faults c.say_failure-in-Ok-None.new.host) (g.H.Host.willing c.say_failure-in-Ok-None.new.host)) (sym c.in-Ok-None.ensures ∙ c.in-Ok-None.field-0-is)
-    (record { statuses = c.say_failure-in-Ok-None.ensures.status; line = c.say_failure-in-Ok-None.ensures.line; memory = c.say_failure-in-Ok-None.ensures.memory; files = c.say_failure-in-Ok-None.ensures.others.files; put_paths = c.say_failure-in-Ok-None.ensures.others.puts; reads = c.say_failure-in-Ok-None.ensures.reads; puts = c.say_failure-in-Ok-None.ensures.puts }) c.say_failure-in-Ok-None.ensures.willing).willing
+    (wordless_end _ c.say_failure.result (seen (g.H.Host.told c.args.host.now) (g.H.Host.read_faults c.args.host.now) (g.H.Host.put_faults c.args.host.now) (g.H.Host.say_faults c.args.host.now) (g.H.Host.willing c.args.host.now)) (seen (g.H.Host.told c.say_failure.new.host) (g.H.Host.read_faults c.say_failure.new.host) (g.H.Host.put_faults c.say_failure.new.host) (g.H.Host.say_faults c.say_failure.new.host) (g.H.Host.willing c.say_failure.new.host)) (sym c.in-Ok-None.ensures ∙ c.in-Ok-None.field-0-is)
+    (record { statuses = c.say_failure.ensures.status; line = c.say_failure.ensures.line; memory = c.say_failure.ensures.memory; files = c.say_failure.ensures.others.files; put_paths = c.say_failure.ensures.others.puts; reads = c.say_failure.ensures.reads; puts = c.say_failure.ensures.puts }) c.say_failure.ensures.willing).willing
 
 pub returns-in-Err-clause-willing : goal.returns-in-Err-clause-willing
 returns-in-Err-clause-willing g c =
@@ -63,8 +63,8 @@ returns-in-Ok-Some-clause-headline g c =
 
 pub returns-in-Ok-None-clause-headline : goal.returns-in-Ok-None-clause-headline
 returns-in-Ok-None-clause-headline g c =
-    (wordless_end _ c.say_failure-in-Ok-None.result (seen (g.H.Host.told c.args.host.now) (g.H.Host.read_faults c.args.host.now) (g.H.Host.put_faults c.args.host.now) (g.H.Host.say_faults c.args.host.now) (g.H.Host.willing c.args.host.now)) (seen (g.H.Host.told c.say_failure-in-Ok-None.new.host) (g.H.Host.read_faults c.say_failure-in-Ok-None.new.host) (g.H.Host.put_faults c.say_failure-in-Ok-None.new.host) (g.H.Host.say_faults c.say_failure-in-Ok-None.new.host) (g.H.Host.willing c.say_failure-in-Ok-None.new.host)) (sym c.in-Ok-None.ensures ∙ c.in-Ok-None.field-0-is)
-    (record { statuses = c.say_failure-in-Ok-None.ensures.status; line = c.say_failure-in-Ok-None.ensures.line; memory = c.say_failure-in-Ok-None.ensures.memory; files = c.say_failure-in-Ok-None.ensures.others.files; put_paths = c.say_failure-in-Ok-None.ensures.others.puts; reads = c.say_failure-in-Ok-None.ensures.reads; puts = c.say_failure-in-Ok-None.ensures.puts }) c.say_failure-in-Ok-None.ensures.willing).headline
+    (wordless_end _ c.say_failure.result (seen (g.H.Host.told c.args.host.now) (g.H.Host.read_faults c.args.host.now) (g.H.Host.put_faults c.args.host.now) (g.H.Host.say_faults c.args.host.now) (g.H.Host.willing c.args.host.now)) (seen (g.H.Host.told c.say_failure.new.host) (g.H.Host.read_faults c.say_failure.new.host) (g.H.Host.put_faults c.say_failure.new.host) (g.H.Host.say_faults c.say_failure.new.host) (g.H.Host.willing c.say_failure.new.host)) (sym c.in-Ok-None.ensures ∙ c.in-Ok-None.field-0-is)
+    (record { statuses = c.say_failure.ensures.status; line = c.say_failure.ensures.line; memory = c.say_failure.ensures.memory; files = c.say_failure.ensures.others.files; put_paths = c.say_failure.ensures.others.puts; reads = c.say_failure.ensures.reads; puts = c.say_failure.ensures.puts }) c.say_failure.ensures.willing).headline
 
 pub returns-in-Err-clause-headline : goal.returns-in-Err-clause-headline
 returns-in-Err-clause-headline g c =
