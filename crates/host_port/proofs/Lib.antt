@@ -1,2 +1,4 @@
 pub mod Numbered
+pub mod AsTold
 pub mod Opening
+pub mod HostFrames

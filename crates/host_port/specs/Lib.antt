@@ -1,6 +1,9 @@
 pub mod Told
+pub mod Bytes
+pub mod HostState
 pub mod Faults
 pub mod Counts
 pub mod HostFiles
 pub mod MemHost
+pub mod ByteFacts
 pub mod RealHost

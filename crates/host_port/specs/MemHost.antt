@@ -6,6 +6,8 @@ use Rattle.host_port.specs.declared.host.HostFault.{HostFault}
 use Rattle.host_port.specs.declared.host.HostFault.TheVariants.{Failed, OutOfMemory}
 use Rattle.host_port.specs.declared.mem_host.MemHost.{MemHost}
 use Rattle.host_port.specs.Told.{Told, file_at, stored}
+use Rattle.host_port.specs.HostState.{HostState}
+use Rattle.host_port.specs.Bytes.{as_bytes, as_byte_files}
 use Rattle.host_port.specs.Counts.{one_more}
 use Rattle.host_port.specs.HostFiles.{number_of, open_bytes}
 
@@ -13,12 +15,13 @@ use Rattle.host_port.specs.HostFiles.{number_of, open_bytes}
 abbrev pub open_in : MemHost → Option (List ℕ)
 open_in host = open_bytes host.files host.input
 
--- all that it tells: everything
+-- All that it tells: everything. Its files are of bytes; that is said here, since a definition ranges over all lists
+-- of numbers.
 abbrev pub told_of : MemHost → Told
 told_of host = record {
-  files = Some host.files;
+  files = Some (as_byte_files host.files);
   is_open = Some (is_some (open_in host));
-  input = Some (unwrap_or (open_in host) []);
+  input = Some (as_bytes (unwrap_or (open_in host) []));
   place = Some host.place;
   puts = Some host.puts;
   said = Some host.said;
@@ -27,6 +30,16 @@ told_of host = record {
 -- no call from now on is one that fails
 abbrev pub IsWilling : MemHost → Type 0
 IsWilling host = All (λ number. number < host.calls) host.failing
+
+-- what contracts see of it
+abbrev pub state_of : MemHost → HostState
+state_of host = record {
+  told = told_of host;
+  read_faults = host.read_faults;
+  put_faults = host.put_faults;
+  say_faults = host.say_faults;
+  willing = IsWilling host;
+}
 
 -- the call that begins is one that fails
 abbrev pub IsFailing : MemHost → Type 0
@@ -61,10 +74,12 @@ Opens path old (Ok _) new = OpensFile path old new
 Opens path old (Err Failed) new = OpensNone path old new
 Opens path old (Err OutOfMemory) new = ⊥
 
--- An Ok of read with the count n: the next n bytes are at the front of the buffer, whose rest is as it was.
+-- An Ok of read with the count n: the next n bytes are at the front of the buffer, whose rest is as it was. What is
+-- left of the file is bytes.
 pub record ReadsBytes (old : MemHost) (buf : List ℕ) (n : ℕ) (got : List ℕ) (new : MemHost) : Type 0 where
   pub not_failing : IsFailing old → ⊥
   pub is_open : IsSome (open_in old)
+  pub are_bytes : All (λ byte. byte < 256) (bytes_left old)
   pub count : n ≡ given old buf
   pub bytes : got ≡ take n (bytes_left old) ++ drop n buf
   pub leaves : new ≡ record old { place = old.place + n; calls = one_more old.calls }
@@ -84,6 +99,7 @@ Reads old buf (Err OutOfMemory) got new = ⊥
 -- An Ok of put: the file of that path holds these bytes, and no input is open.
 pub record PutsFile (path bytes : List ℕ) (old new : MemHost) : Type 0 where
   pub not_failing : IsFailing old → ⊥
+  pub are_bytes : All (λ byte. byte < 256) bytes
   pub leaves : new ≡ record old { files = stored path bytes old.files; input = None; puts = old.puts ++ path ∷ []; calls = one_more old.calls }
 
 -- A failed put: the call is one that fails.

@@ -1,7 +1,7 @@
 -- What a host tells of the outside, and what each of its calls does to it.
 -- Every part is told (Some) or not told (None). A host in memory tells all of them, one over real files none.
 -- Each effect is an equation on what is told: what isn't told stays not told.
-use Rattle.std.specs.Prelude.{◌≡◌, ◌≤◌, ◌<◌, ℕ, ◌+◌, Bool, true, false, List, [], ◌∷◌, ◌++◌, length, take, drop, Option, Some, None, IsSome, if◌then◌else◌}
+use Rattle.std.specs.Prelude.{◌≡◌, ◌≤◌, ◌<◌, ℕ, ◌+◌, Bool, true, false, List, [], ◌∷◌, ◌++◌, length, take, drop, Option, Some, None, IsSome, All, if◌then◌else◌}
 use Rattle.std.specs.Option.{option_map, option_and_then}
 use Rattle.std.specs.Str.{bytes_eq}
 
@@ -27,6 +27,11 @@ file_at path (file ∷ files) = if bytes_eq path file.0 then Some file.1 else fi
 -- the bytes of the file of that path, where the files are told and one of them has it
 abbrev pub named : List ℕ → Told → Option (List ℕ)
 named path told = option_and_then (file_at path) told.files
+
+-- What is told of the file of each path, and of the input, is bytes.
+pub record TellsBytes (told : Told) : Type 0 where
+  pub file : (path bytes : List ℕ) → named path told ≡ Some bytes → All (λ byte. byte < 256) bytes
+  pub input : (input : List ℕ) → told.input ≡ Some input → All (λ byte. byte < 256) input
 
 -- After an Ok of open_input the input is the file of that path, at its first byte.
 pub record Opened (path : List ℕ) (old new : Told) : Type 0 where

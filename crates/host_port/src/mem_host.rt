@@ -1,10 +1,11 @@
 //! A host in memory.
 
-ghost use Rattle.std.specs.Prelude.{◌≡◌, ◌↔◌, ◌∷◌, ◌++◌, length, min, max, take, drop, refl, IsTrue, None, [], OnOk, OnErr};
+ghost use Rattle.std.specs.Prelude.{◌≡◌, ◌↔◌, ◌∷◌, ◌++◌, ◌<◌, All, length, min, max, take, drop, refl, IsTrue, None, [], OnOk, OnErr};
 ghost use Rattle.std.specs.Option.{option_copied};
 ghost use Rattle.host_port.specs.Counts.{one_more};
 ghost use Rattle.host_port.specs.Told.{stored};
-ghost use Rattle.host_port.specs.MemHost.{told_of, open_in, after_read_fault, IsWilling, IsFailing, Opens, Reads, Puts, Says};
+ghost use Rattle.host_port.specs.ByteFacts.{mem_tells_bytes};
+ghost use Rattle.host_port.specs.MemHost.{state_of, open_in, after_read_fault, IsFailing, Opens, Reads, Puts, Says};
 
 use crate::bytes::Bytes;
 use crate::counts::one_more;
@@ -108,15 +109,7 @@ impl MemHost {
 }
 
 impl Host for MemHost {
-    ghost told = { told_of };
-
-    ghost read_faults = { λ host. host.read_faults };
-
-    ghost put_faults = { λ host. host.put_faults };
-
-    ghost say_faults = { λ host. host.say_faults };
-
-    ghost willing = { IsWilling };
+    ghost state = { state_of };
 
     #[tactic(auto, using(crate::proofs::Numbered::found_some))]
     fn open_input(&mut self, path: &str) -> Result<(), HostFault>
@@ -186,6 +179,8 @@ impl Host for MemHost {
 
     ghost tells_input = { λ host files. (refl, refl) };
 
+    ghost tells_bytes = { mem_tells_bytes };
+
     ghost willing_tells = { λ host willing. (refl, refl) };
 }
 
@@ -193,6 +188,7 @@ impl Host for MemHost {
 fn give(bytes: &[u8], place: u64, piece: u64, buf: &mut [u8]) -> usize
     ensures count { result ≡ min (length buf.old) (min (max piece 1) (length (drop place bytes.now))) }
     ensures bytes { buf.new ≡ take result (drop place bytes.now) ++ drop result buf.old }
+    ensures are_bytes { All (λ byte. byte < 256) (drop place bytes.now) }
 {
     let start = bytes.len().min(place as usize);
     let left = &bytes[start..];
@@ -213,6 +209,7 @@ fn put_in(
     ensures puts { OnOk result (puts.new ≡ puts.old ++ path.now ∷ []) }
     ensures files_err { OnErr result (files.new ≡ files.old) }
     ensures puts_err { OnErr result (puts.new ≡ puts.old) }
+    ensures are_bytes { All (λ byte. byte < 256) bytes.now }
 {
     let alloc = puts.allocator();
     let listed = Text::from_str(alloc, path)?;

@@ -1,7 +1,7 @@
 //! The host over real files and the standard output: the edge that is trusted.
 
 ghost use Rattle.std.specs.Prelude.{◌≡◌, ◌≤◌, length, IfSome};
-ghost use Rattle.host_port.specs.RealHost.{nothing};
+ghost use Rattle.host_port.specs.RealHost.{untold, no_bytes_told};
 
 use crate::counts::one_more;
 use crate::host::{Host, HostFault};
@@ -34,9 +34,9 @@ impl<'a, R: Files + Print + Alloc> RealHost<'a, R> {
     /// A host with no input open and no fault counted. The number of the process names the files that it writes
     /// before they take their paths, so that two runs never write into one.
     pub fn new(rt: &'a R, process: u32) -> RealHost<'a, R>
-        ensures reads { ⟦<RealHost<'a, R> as Host>⟧.read_faults result ≡ 0 }
-        ensures puts { ⟦<RealHost<'a, R> as Host>⟧.put_faults result ≡ 0 }
-        ensures says { ⟦<RealHost<'a, R> as Host>⟧.say_faults result ≡ 0 }
+        ensures reads { (⟦<RealHost<'a, R> as Host>⟧.state result).read_faults ≡ 0 }
+        ensures puts { (⟦<RealHost<'a, R> as Host>⟧.state result).put_faults ≡ 0 }
+        ensures says { (⟦<RealHost<'a, R> as Host>⟧.state result).say_faults ≡ 0 }
     {
         RealHost {
             rt,
@@ -50,15 +50,7 @@ impl<'a, R: Files + Print + Alloc> RealHost<'a, R> {
 }
 
 impl<'a, R: Files + Print + Alloc> Host for RealHost<'a, R> {
-    ghost told = { λ _. nothing };
-
-    ghost read_faults = { λ host. host.read_faults };
-
-    ghost put_faults = { λ host. host.put_faults };
-
-    ghost say_faults = { λ host. host.say_faults };
-
-    ghost willing = { λ _. ⊥ };
+    ghost state = { λ host. untold host.read_faults host.put_faults host.say_faults };
 
     fn open_input(&mut self, path: &str) -> Result<(), HostFault> {
         match open_ahead(self.rt, path) {
@@ -110,6 +102,8 @@ impl<'a, R: Files + Print + Alloc> Host for RealHost<'a, R> {
     }
 
     ghost tells_input = { λ host files. (files, files) };
+
+    ghost tells_bytes = { λ host. no_bytes_told };
 
     ghost willing_tells = { λ host willing. absurd willing };
 }

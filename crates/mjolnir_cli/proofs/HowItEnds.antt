@@ -5,7 +5,7 @@ use Rattle.std.specs.Option.{option_map}
 use Rattle.host_port.specs.Told.{Told, named}
 use Rattle.host_port.specs.Faults.{Rose}
 use Rattle.road_pieces.specs.ListWalks.{ListsWalks}
-use Rattle.mjolnir_cli.specs.HostState.{HostState}
+use Rattle.host_port.specs.HostState.{HostState, OnlyOpens}
 use Rattle.mjolnir_cli.specs.declared.answer.Answer.{Answer}
 use Rattle.mjolnir_cli.specs.declared.failure.Failure.{Failure}
 use Rattle.mjolnir_cli.specs.declared.failure.Failure.TheVariants.{Words, Read, Put, OutOfMemory}
@@ -15,7 +15,7 @@ use Rattle.mjolnir_cli.specs.Commands.{input_of, paths_of, IsAnswer, IsRefused, 
 use Rattle.mjolnir_cli.specs.Failures.{Cause, OfWords, OfReading, OfPutting, OfBytes, OfLimits, OfMemory, cause_of, status_for, status_of, line_of}
 use Rattle.mjolnir_cli.specs.Puts.{PutsAll, BeginsWith, IsFront, Unput, paths}
 use Rattle.mjolnir_cli.specs.Said.{Adds, SaysLine}
-use Rattle.mjolnir_cli.specs.Listing.{IfOfInput, IfOfReading, IsMet, ReadCount, OnlyRead}
+use Rattle.mjolnir_cli.specs.Listing.{IfOfInput, IfOfReading, IsMet, ReadCount}
 use Rattle.mjolnir_cli.specs.Ends.{SaysItsLine, HasAnswer, IsDone, IsRefusedWords, IsUnread, IsUnput, IsRefusedFor, HasNoMemory, IsUnsaid, EndsBy, CountsNone, SameCounts, HasCauses, IsComplete, IsHeardBy, KeepsHeadline, IsEnd}
 use Rattle.mjolnir_cli.proofs.Stored.{puts_after, puts_of_none}
 use Rattle.mjolnir_cli.proofs.Ends.{lists, no_files}
@@ -52,10 +52,8 @@ pub record RanTo (answer : Answer) (mine : Command) (before mid : HostState) : T
   pub carries : (bytes : List ℕ) → named (input_of mine) before.told ≡ Some bytes → CarriesHeadline mine bytes answer
   pub paths_are : paths answer.files ≡ paths_of mine
   pub whole : (bytes : List ℕ) → named (input_of mine) before.told ≡ Some bytes → mid.told.place ≡ Some (length bytes)
-  pub others : OnlyRead before.told mid.told
+  pub others : OnlyOpens before mid
   pub reads : mid.read_faults ≡ before.read_faults
-  pub puts : mid.put_faults ≡ before.put_faults
-  pub says : mid.say_faults ≡ before.say_faults
 
 not_delivered : (status other : ℕ) → (0 ≡ other → ⊥) → (4 ≡ other → ⊥) → (7 ≡ other → ⊥) → (9 ≡ other → ⊥) → (status ≡ 0) ⊎ (status ≡ 4) ⊎ (status ≡ 7) ⊎ (status ≡ 9) → status ≡ other → ⊥
 not_delivered status other at_zero four seven nine (inl is) e = at_zero (sym is ∙ e)
@@ -93,13 +91,13 @@ ends_delivered asked mine answer status before mid after is ran given =
       refused_words = λ e. absurd (not_delivered status 2 (λ z. omega arith) (λ z. omega arith) (λ z. omega arith) (λ z. omega arith) given.statuses e);
       unread = λ e. absurd (not_delivered status 3 (λ z. omega arith) (λ z. omega arith) (λ z. omega arith) (λ z. omega arith) given.statuses e);
       unput = λ e. record {
-        counted = rose_from before.put_faults mid.put_faults after.put_faults ran.puts (given.put e);
+        counted = rose_from before.put_faults mid.put_faults after.put_faults ran.others.put_faults (given.put e);
         answer = answer;
         answers = has;
         front = (given.put_front e).0;
         is_front = (given.put_front e).1;
         puts = put_from (given.put_front e).0 (given.put_front e).2;
-        line = told_from Put before mid after ran.others.said ran.says (given.put_line e);
+        line = told_from Put before mid after ran.others.said ran.others.say_faults (given.put_line e);
       };
       refused = λ e. absurd (not_delivered status 5 (λ z. omega arith) (λ z. omega arith) (λ z. omega arith) (λ z. omega arith) given.statuses e);
       past_limit = λ e. absurd (not_delivered status 6 (λ z. omega arith) (λ z. omega arith) (λ z. omega arith) (λ z. omega arith) given.statuses e);
@@ -110,7 +108,7 @@ ends_delivered asked mine answer status before mid after is ran given =
         is_front = inr (answer, has, (given.memory_front e).1);
       };
       unsaid = λ e. record {
-        counted = rose_from before.say_faults mid.say_faults after.say_faults ran.says (given.say e);
+        counted = rose_from before.say_faults mid.say_faults after.say_faults ran.others.say_faults (given.say e);
         answer = answer;
         answers = has;
         puts = put_from answer.files (given.say_done e);
@@ -123,12 +121,12 @@ pub causes_delivered : EndsOneWay → (asked : Option Command) (mine : Command) 
 causes_delivered way asked mine answer status before mid after is ran given = record {
   words = λ none. absurd (some_none mine (sym is ∙ none));
   reading = λ not_three not_seven. given.reads ∙ ran.reads;
-  putting = λ not_four not_seven. given.put_only not_four not_seven ∙ ran.puts;
+  putting = λ not_four not_seven. given.put_only not_four not_seven ∙ ran.others.put_faults;
   fileless = λ command command_is none.
       let still = given.none (no_files asked mine command answer.files is command_is ran.paths_are none) in
-      (unput_from before.told mid.told after.told ran.others.files ran.others.puts still.0, still.1 ∙ ran.puts);
+      (unput_from before.told mid.told after.told ran.others.files ran.others.puts still.0, still.1 ∙ ran.others.put_faults);
   refusing = λ command bytes failure asks refused unread. absurd (answered way asked before.told mine command bytes answer failure is ran.is_answer asks refused);
-  saying = λ e. given.say_only e ∙ ran.says;
+  saying = λ e. given.say_only e ∙ ran.others.say_faults;
 }
 
 pub complete_delivered : (asked : Option Command) (mine : Command) (answer : Answer) (status : ℕ) (before mid after : HostState) → RanTo answer mine before mid → Delivers answer status mid after → CountsNone before after → (status ≡ 0) ⊎ (status ≡ 7)
@@ -136,9 +134,9 @@ complete_delivered asked mine answer status before mid after ran given none = by
   where
     by : (status ≡ 0) ⊎ (status ≡ 4) ⊎ (status ≡ 7) ⊎ (status ≡ 9) → (status ≡ 0) ⊎ (status ≡ 7)
     by (inl e) = inl e
-    by (inr (inl e)) = absurd (none.puts (rose_from before.put_faults mid.put_faults after.put_faults ran.puts (given.put e)))
+    by (inr (inl e)) = absurd (none.puts (rose_from before.put_faults mid.put_faults after.put_faults ran.others.put_faults (given.put e)))
     by (inr (inr (inl e))) = inr e
-    by (inr (inr (inr e))) = absurd (none.says (rose_from before.say_faults mid.say_faults after.say_faults ran.says (given.say e)))
+    by (inr (inr (inr e))) = absurd (none.says (rose_from before.say_faults mid.say_faults after.say_faults ran.others.say_faults (given.say e)))
 
 pub headline_delivered : (asked : Option Command) (mine : Command) (answer : Answer) (status : ℕ) (before mid after : HostState) → ListsWalks → asked ≡ Some mine → RanTo answer mine before mid → Delivers answer status mid after → KeepsHeadline status asked before after
 headline_delivered asked mine answer status before mid after law is ran given e (Blobs path) bytes asks = tt
@@ -161,10 +159,8 @@ pub record Fails (failure : Failure) (status : ℕ) (before after : HostState) :
 pub record RanInto (failure : Failure) (mine : Command) (before mid : HostState) : Type 0 where
   pub refused : (bytes : List ℕ) → named (input_of mine) before.told ≡ Some bytes → IfOfInput (cause_of failure) (IsRefused mine bytes failure)
   pub met : IsMet (cause_of failure)
-  pub others : OnlyRead before.told mid.told
+  pub others : OnlyOpens before mid
   pub reads : ReadCount before.read_faults mid.read_faults (cause_of failure)
-  pub puts : mid.put_faults ≡ before.put_faults
-  pub says : mid.say_faults ≡ before.say_faults
 
 memory_record : (asked : Option Command) (before after : HostState) → Unput before.told after.told → Adds (line_of OutOfMemory) before.told after.told ⊎ (after.told.said ≡ before.told.said) → HasNoMemory asked before after
 memory_record asked before after unput line = record { line = line; front = []; puts = puts_of_none before.told after.told unput; is_front = inl refl }
@@ -207,7 +203,7 @@ ends_failed asked mine failure status before mid after is ran given = by (cause_
     unput = unput_failed failure mine status before mid after ran given
 
     line : (number : ℕ) → (7 ≡ number → ⊥) → status ≡ number → SaysItsLine failure before after
-    line number other e = told_from failure before mid after ran.others.said ran.says (given.line (not_seven status number other e))
+    line number other e = told_from failure before mid after ran.others.said ran.others.say_faults (given.line (not_seven status number other e))
 
     memory : status ≡ 7 → HasNoMemory asked before after
     memory e = memory_record asked before after unput (memory_from (line_of OutOfMemory) before mid after ran.others.said (given.memory e))
@@ -264,8 +260,8 @@ pub causes_failed : EndsOneWay → (asked : Option Command) (mine : Command) (fa
 causes_failed way asked mine failure status before mid after is ran given = record {
   words = λ none. absurd (some_none mine (sym is ∙ none));
   reading = λ not_three not_seven. given.reads ∙ counted_by (cause_of failure) status before.read_faults mid.read_faults given.statuses ran.reads not_three not_seven;
-  putting = λ not_four not_seven. given.puts ∙ ran.puts;
-  fileless = λ command command_is none. (unput_failed failure mine status before mid after ran given, given.puts ∙ ran.puts);
+  putting = λ not_four not_seven. given.puts ∙ ran.others.put_faults;
+  fileless = λ command command_is none. (unput_failed failure mine status before mid after ran given, given.puts ∙ ran.others.put_faults);
   refusing = λ command bytes other asks refused unread.
       refused_so way asked before.told mine command bytes failure other before.read_faults mid.read_faults after.read_faults status is ran.met ran.refused ran.reads given.reads unread asks refused given.statuses;
   saying = λ e. absurd (not_done (cause_of failure) status given.statuses e);
@@ -287,8 +283,8 @@ unread_by OfMemory before mid never counted = counted
 pub willing_failed : (mine : Command) (failure : Failure) (status : ℕ) (before mid after : HostState) → RanInto failure mine before mid → Fails failure status mid after → IfOfReading (cause_of failure) ⊥ → after.say_faults ≡ mid.say_faults → SameCounts before after
 willing_failed mine failure status before mid after ran given never says = record {
   reads = given.reads ∙ unread_by (cause_of failure) before.read_faults mid.read_faults never ran.reads;
-  puts = given.puts ∙ ran.puts;
-  says = says ∙ ran.says;
+  puts = given.puts ∙ ran.others.put_faults;
+  says = says ∙ ran.others.say_faults;
 }
 
 -- ---- where nothing is run
@@ -347,16 +343,13 @@ no_headline asked failure status before mid after given e command bytes asks = a
 
 -- ---- the four ways together
 
-abbrev pub seen : Told → ℕ → ℕ → ℕ → Type 0 → HostState
-seen told reads puts says willing = record { told = told; read_faults = reads; put_faults = puts; say_faults = says; willing = willing }
-
 pub delivered_end : EndsOneWay → ListsWalks → (mine : Command) (answer : Answer) (status : ℕ) (before mid after : HostState) → RanTo answer mine before mid → Delivers answer status mid after
     → (before.willing → after.put_faults ≡ mid.put_faults) → (before.willing → after.say_faults ≡ mid.say_faults) → IsEnd status (Some mine) before after
 delivered_end way law mine answer status before mid after ran given puts says = record {
   ends = ends_delivered (Some mine) mine answer status before mid after refl ran given;
   causes = causes_delivered way (Some mine) mine answer status before mid after refl ran given;
   complete = λ command bytes other asks is none. complete_delivered (Some mine) mine answer status before mid after ran given none;
-  willing = λ willing there. record { reads = given.reads ∙ ran.reads; puts = puts willing ∙ ran.puts; says = says willing ∙ ran.says };
+  willing = λ willing there. record { reads = given.reads ∙ ran.reads; puts = puts willing ∙ ran.others.put_faults; says = says willing ∙ ran.others.say_faults };
   headline = headline_delivered (Some mine) mine answer status before mid after law refl ran given;
 }
 

@@ -5,7 +5,7 @@ use Rattle.std.specs.Prelude.{IsSome}
 use Rattle.std.specs.Option.{option_map}
 use Rattle.command_words.specs.declared.command.BuildOptions.{BuildOptions}
 use Rattle.host_port.specs.Faults.{Rose}
-use Rattle.mjolnir_cli.specs.HostState.{HostState}
+use Rattle.host_port.specs.HostState.{HostState}
 use Rattle.mjolnir_cli.specs.declared.answer.Answer.{Answer}
 use Rattle.mjolnir_cli.specs.declared.failure.Failure.{Failure}
 use Rattle.mjolnir_cli.specs.declared.failure.Failure.TheVariants.{Words, Read, Put, OutOfMemory}

@@ -3,7 +3,7 @@
 use Rattle.std.specs.Prelude.{◌≡◌, ◌≢◌, ◌⊎◌, ℕ, List, [], Option, Some, None, length}
 use Rattle.host_port.specs.Told.{named}
 use Rattle.host_port.specs.Faults.{Rose}
-use Rattle.mjolnir_cli.specs.HostState.{HostState}
+use Rattle.host_port.specs.HostState.{HostState}
 use Rattle.mjolnir_cli.specs.declared.answer.Answer.{Answer}
 use Rattle.mjolnir_cli.specs.declared.failure.Failure.{Failure}
 use Rattle.mjolnir_cli.specs.declared.failure.Failure.TheVariants.{Words, Read, Put, OutOfMemory}

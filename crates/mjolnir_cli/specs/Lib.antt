@@ -7,5 +7,4 @@ pub mod Commands
 pub mod Puts
 pub mod Said
 pub mod Listing
-pub mod HostState
 pub mod Ends

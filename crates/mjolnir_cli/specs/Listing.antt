@@ -1,6 +1,5 @@
 -- What a command that reads its input answers before anything is put or said.
 use Rattle.std.specs.Prelude.{◌≡◌, ℕ, Result, Ok, Err}
-use Rattle.host_port.specs.Told.{Told}
 use Rattle.host_port.specs.Faults.{Rose}
 use Rattle.mjolnir_cli.specs.declared.failure.Failure.{Failure}
 use Rattle.mjolnir_cli.specs.Failures.{Cause, OfWords, OfReading, OfPutting, OfBytes, OfLimits, cause_of}
@@ -36,9 +35,3 @@ IfOfReading other fact = Unit {0}
 abbrev pub IfRead : {A : Type 0} → Result A Failure → Type 0 → Type 0
 IfRead (Ok _) fact = Unit {0}
 IfRead (Err failure) fact = IfOfReading (cause_of failure) fact
-
--- Whatever the answer is, nothing but the input is other than before.
-pub record OnlyRead (old new : Told) : Type 0 where
-  pub files : new.files ≡ old.files
-  pub puts : new.puts ≡ old.puts
-  pub said : new.said ≡ old.said

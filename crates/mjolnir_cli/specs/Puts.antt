@@ -17,11 +17,6 @@ pub record PutsAll (files : List (List ℕ × List ℕ)) (old new : Told) : Type
   pub stored : new.files ≡ option_map (store_all files) old.files
   pub puts : new.puts ≡ option_map (λ puts. puts ++ paths files) old.puts
 
--- Whatever was put, nothing else is other than before but whether an input is open.
-pub record OnlyPut (old new : Told) : Type 0 where
-  pub place : new.place ≡ old.place
-  pub said : new.said ≡ old.said
-
 -- the list begins with this front
 pub record BeginsWith (front whole : List (List ℕ × List ℕ)) : Type 0 where
   pub rest : List (List ℕ × List ℕ)

@@ -11,11 +11,3 @@ Adds text old new = new.said ≡ option_map (λ said. said ++ text) old.said
 -- The bytes said grew by this line; or, only where the count of faults of saying rose, by nothing.
 abbrev pub SaysLine : List ℕ → Told → Told → ℕ → ℕ → Type 0
 SaysLine line old new before now = Adds line old new ⊎ ((new.said ≡ old.said) × Rose before now)
-
--- Whatever was said, nothing else is other than before.
-pub record OnlySaid (old new : Told) : Type 0 where
-  pub files : new.files ≡ old.files
-  pub is_open : new.is_open ≡ old.is_open
-  pub input : new.input ≡ old.input
-  pub place : new.place ≡ old.place
-  pub puts : new.puts ≡ old.puts

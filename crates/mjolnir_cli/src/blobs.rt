@@ -3,10 +3,10 @@
 ghost use Rattle.std.specs.Prelude.{◌≡◌, ℕ, ◌++◌, List, length, Some, IsSome, false, IfOk, IfErr, OnOk};
 ghost use Rattle.std.specs.String.{string_bytes};
 ghost use Rattle.host_port.specs.Told.{named};
-ghost use Rattle.pbf_blobs.specs.Input.{OnlyMoved};
+ghost use Rattle.host_port.specs.HostState.{OnlyOpens, OnlyReads};
 ghost use Rattle.mjolnir_cli.specs.Commands.BlobsCommand.{ListsBlobs, StopsAt, blob_line};
 ghost use Rattle.mjolnir_cli.specs.Failures.{cause_of};
-ghost use Rattle.mjolnir_cli.specs.Listing.{IfOfInput, IsMet, CountedRead, IfRead, OnlyRead};
+ghost use Rattle.mjolnir_cli.specs.Listing.{IfOfInput, IsMet, CountedRead, IfRead};
 
 use crate::failure::Failure;
 use host_port::Host;
@@ -15,16 +15,13 @@ use std::alloc::{AllocError, Global};
 
 /// The lines of all blobs of the file of that path. The file is read to its end.
 pub(crate) fn blob_list<H: Host>(alloc: Global, path: &str, host: &mut H) -> Result<String, Failure>
-    ensures listed { IfOk result (λ text. (bytes : List ℕ) → named path.now (H.told host.old) ≡ Some bytes → ListsBlobs bytes (string_bytes text)) }
-    ensures whole { OnOk result ((bytes : List ℕ) → named path.now (H.told host.old) ≡ Some bytes → (H.told host.new).place ≡ Some (length bytes)) }
-    ensures refused { IfErr result (λ failure. (bytes : List ℕ) → named path.now (H.told host.old) ≡ Some bytes → IfOfInput (cause_of failure) (StopsAt bytes failure)) }
+    ensures listed { IfOk result (λ text. (bytes : List ℕ) → named path.now (H.state host.old).told ≡ Some bytes → ListsBlobs bytes (string_bytes text)) }
+    ensures whole { OnOk result ((bytes : List ℕ) → named path.now (H.state host.old).told ≡ Some bytes → (H.state host.new).told.place ≡ Some (length bytes)) }
+    ensures refused { IfErr result (λ failure. (bytes : List ℕ) → named path.now (H.state host.old).told ≡ Some bytes → IfOfInput (cause_of failure) (StopsAt bytes failure)) }
     ensures met { IfErr result (λ failure. IsMet (cause_of failure)) }
-    ensures others { OnlyRead (H.told host.old) (H.told host.new) }
-    ensures reads { CountedRead (H.read_faults host.old) (H.read_faults host.new) result }
-    ensures puts { H.put_faults host.new ≡ H.put_faults host.old }
-    ensures says { H.say_faults host.new ≡ H.say_faults host.old }
-    ensures willing { H.willing host.old → H.willing host.new }
-    ensures cause { H.willing host.old → IsSome (named path.now (H.told host.old)) → IfRead result ⊥ }
+    ensures frame { OnlyOpens (H.state host.old) (H.state host.new) }
+    ensures faults { CountedRead (H.state host.old).read_faults (H.state host.new).read_faults result }
+    ensures cause { (H.state host.old).willing → IsSome (named path.now (H.state host.old).told) → IfRead result ⊥ }
 {
     host.open_input(path)?;
     list_blobs(alloc, host)
@@ -32,16 +29,13 @@ pub(crate) fn blob_list<H: Host>(alloc: Global, path: &str, host: &mut H) -> Res
 
 /// The lines of the blobs of an input that stands at its start. It is read to its end.
 fn list_blobs<H: Host>(alloc: Global, host: &mut H) -> Result<String, Failure>
-    ensures listed { IfOk result (λ text. (bytes : List ℕ) → (H.told host.old).input ≡ Some bytes → (H.told host.old).place ≡ Some 0 → ListsBlobs bytes (string_bytes text)) }
-    ensures whole { OnOk result ((bytes : List ℕ) → (H.told host.old).input ≡ Some bytes → (H.told host.old).place ≡ Some 0 → (H.told host.new).place ≡ Some (length bytes)) }
-    ensures refused { IfErr result (λ failure. (bytes : List ℕ) → (H.told host.old).input ≡ Some bytes → (H.told host.old).place ≡ Some 0 → IfOfInput (cause_of failure) (StopsAt bytes failure)) }
+    ensures listed { IfOk result (λ text. (bytes : List ℕ) → (H.state host.old).told.input ≡ Some bytes → (H.state host.old).told.place ≡ Some 0 → ListsBlobs bytes (string_bytes text)) }
+    ensures whole { OnOk result ((bytes : List ℕ) → (H.state host.old).told.input ≡ Some bytes → (H.state host.old).told.place ≡ Some 0 → (H.state host.new).told.place ≡ Some (length bytes)) }
+    ensures refused { IfErr result (λ failure. (bytes : List ℕ) → (H.state host.old).told.input ≡ Some bytes → (H.state host.old).told.place ≡ Some 0 → IfOfInput (cause_of failure) (StopsAt bytes failure)) }
     ensures met { IfErr result (λ failure. IsMet (cause_of failure)) }
-    ensures others { OnlyMoved (H.told host.old) (H.told host.new) }
-    ensures reads { CountedRead (H.read_faults host.old) (H.read_faults host.new) result }
-    ensures puts { H.put_faults host.new ≡ H.put_faults host.old }
-    ensures says { H.say_faults host.new ≡ H.say_faults host.old }
-    ensures willing { H.willing host.old → H.willing host.new }
-    ensures cause { H.willing host.old → IfRead result ((H.told host.old).is_open ≡ Some false) }
+    ensures frame { OnlyReads (H.state host.old) (H.state host.new) }
+    ensures faults { CountedRead (H.state host.old).read_faults (H.state host.new).read_faults result }
+    ensures cause { (H.state host.old).willing → IfRead result ((H.state host.old).told.is_open ≡ Some false) }
 {
     let mut text = String::new(alloc);
     let mut at = 0;

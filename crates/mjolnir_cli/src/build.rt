@@ -3,7 +3,7 @@
 ghost use Rattle.std.specs.Prelude.{◌≡◌, ℕ, List, [], ◌∷◌, length, map, All, Some, None, IsSome, false, IfOk, IfErr, OnOk};
 ghost use Rattle.fixed_geo.specs.Place.{IsPlace};
 ghost use Rattle.host_port.specs.Told.{named};
-ghost use Rattle.pbf_blobs.specs.Input.{OnlyMoved};
+ghost use Rattle.host_port.specs.HostState.{OnlyOpens, OnlyReads};
 ghost use Rattle.road_pieces.specs.ListWalks.{listed};
 ghost use Rattle.road_pieces.specs.Rows.{junction_rows, piece_rows, refusal};
 ghost use Rattle.mjolnir_cli.specs.Commands.BuildCommand.{list_path, IsBuilt, IsBuildRefused, IsCut, IsOfExtract, TellsPieces};
@@ -12,7 +12,7 @@ ghost use Rattle.mjolnir_cli.specs.Failures.{cause_of};
 ghost use Rattle.mjolnir_cli.specs.Puts.{paths};
 ghost use Rattle.mjolnir_cli.specs.PlainList.{list_of};
 ghost use Rattle.mjolnir_cli.specs.ListReading.{pieces_told};
-ghost use Rattle.mjolnir_cli.specs.Listing.{IfOfInput, IsMet, CountedRead, IfRead, OnlyRead};
+ghost use Rattle.mjolnir_cli.specs.Listing.{IfOfInput, IsMet, CountedRead, IfRead};
 
 use crate::answer::Answer;
 use crate::failure::Failure;
@@ -32,18 +32,15 @@ pub(crate) fn plain_roads<H: Host>(
     output: &str,
     host: &mut H,
 ) -> Result<Answer, Failure>
-    ensures built { IfOk result (λ answer. (bytes : List ℕ) → named input.now (H.told host.old) ≡ Some bytes → IsBuilt output.now bytes answer) }
-    ensures told { IfOk result (λ answer. (bytes : List ℕ) → named input.now (H.told host.old) ≡ Some bytes → TellsPieces output.now bytes answer) }
+    ensures built { IfOk result (λ answer. (bytes : List ℕ) → named input.now (H.state host.old).told ≡ Some bytes → IsBuilt output.now bytes answer) }
+    ensures told { IfOk result (λ answer. (bytes : List ℕ) → named input.now (H.state host.old).told ≡ Some bytes → TellsPieces output.now bytes answer) }
     ensures paths { IfOk result (λ answer. paths answer.files ≡ list_path output.now ∷ []) }
-    ensures whole { OnOk result ((bytes : List ℕ) → named input.now (H.told host.old) ≡ Some bytes → (H.told host.new).place ≡ Some (length bytes)) }
-    ensures refused { IfErr result (λ failure. (bytes : List ℕ) → named input.now (H.told host.old) ≡ Some bytes → IfOfInput (cause_of failure) (IsBuildRefused bytes failure)) }
+    ensures whole { OnOk result ((bytes : List ℕ) → named input.now (H.state host.old).told ≡ Some bytes → (H.state host.new).told.place ≡ Some (length bytes)) }
+    ensures refused { IfErr result (λ failure. (bytes : List ℕ) → named input.now (H.state host.old).told ≡ Some bytes → IfOfInput (cause_of failure) (IsBuildRefused bytes failure)) }
     ensures met { IfErr result (λ failure. IsMet (cause_of failure)) }
-    ensures others { OnlyRead (H.told host.old) (H.told host.new) }
-    ensures reads { CountedRead (H.read_faults host.old) (H.read_faults host.new) result }
-    ensures puts { H.put_faults host.new ≡ H.put_faults host.old }
-    ensures says { H.say_faults host.new ≡ H.say_faults host.old }
-    ensures willing { H.willing host.old → H.willing host.new }
-    ensures cause { H.willing host.old → IsSome (named input.now (H.told host.old)) → IfRead result ⊥ }
+    ensures frame { OnlyOpens (H.state host.old) (H.state host.new) }
+    ensures faults { CountedRead (H.state host.old).read_faults (H.state host.new).read_faults result }
+    ensures cause { (H.state host.old).willing → IsSome (named input.now (H.state host.old).told) → IfRead result ⊥ }
 {
     match roads_in(alloc, input, host) {
         Ok(roads) => match list_file(alloc, output, &roads) {
@@ -59,17 +56,14 @@ pub(crate) fn plain_roads<H: Host>(
 
 /// The roads of the extract of that path. It is read to its end.
 fn roads_in<H: Host>(alloc: Global, input: &str, host: &mut H) -> Result<Roads, Failure>
-    ensures roads { IfOk result (λ roads. (bytes : List ℕ) → named input.now (H.told host.old) ≡ Some bytes → IsCut bytes roads.junctions roads.pieces) }
+    ensures roads { IfOk result (λ roads. (bytes : List ℕ) → named input.now (H.state host.old).told ≡ Some bytes → IsCut bytes roads.junctions roads.pieces) }
     ensures placed { IfOk result (λ roads. All (λ junction. IsPlace junction.at) roads.junctions) }
-    ensures whole { OnOk result ((bytes : List ℕ) → named input.now (H.told host.old) ≡ Some bytes → (H.told host.new).place ≡ Some (length bytes)) }
-    ensures refused { IfErr result (λ failure. (bytes : List ℕ) → named input.now (H.told host.old) ≡ Some bytes → IfOfInput (cause_of failure) (IsBuildRefused bytes failure)) }
+    ensures whole { OnOk result ((bytes : List ℕ) → named input.now (H.state host.old).told ≡ Some bytes → (H.state host.new).told.place ≡ Some (length bytes)) }
+    ensures refused { IfErr result (λ failure. (bytes : List ℕ) → named input.now (H.state host.old).told ≡ Some bytes → IfOfInput (cause_of failure) (IsBuildRefused bytes failure)) }
     ensures met { IfErr result (λ failure. IsMet (cause_of failure)) }
-    ensures others { OnlyRead (H.told host.old) (H.told host.new) }
-    ensures reads { CountedRead (H.read_faults host.old) (H.read_faults host.new) result }
-    ensures puts { H.put_faults host.new ≡ H.put_faults host.old }
-    ensures says { H.say_faults host.new ≡ H.say_faults host.old }
-    ensures willing { H.willing host.old → H.willing host.new }
-    ensures cause { H.willing host.old → IsSome (named input.now (H.told host.old)) → IfRead result ⊥ }
+    ensures frame { OnlyOpens (H.state host.old) (H.state host.new) }
+    ensures faults { CountedRead (H.state host.old).read_faults (H.state host.new).read_faults result }
+    ensures cause { (H.state host.old).willing → IsSome (named input.now (H.state host.old).told) → IfRead result ⊥ }
 {
     host.open_input(input)?;
     roads_of(alloc, host)
@@ -77,17 +71,14 @@ fn roads_in<H: Host>(alloc: Global, input: &str, host: &mut H) -> Result<Roads, 
 
 /// The roads of the extract of an input that stands at its start. It is read to its end.
 fn roads_of<H: Host>(alloc: Global, host: &mut H) -> Result<Roads, Failure>
-    ensures roads { IfOk result (λ roads. (bytes : List ℕ) → (H.told host.old).input ≡ Some bytes → (H.told host.old).place ≡ Some 0 → IsCut bytes roads.junctions roads.pieces) }
+    ensures roads { IfOk result (λ roads. (bytes : List ℕ) → (H.state host.old).told.input ≡ Some bytes → (H.state host.old).told.place ≡ Some 0 → IsCut bytes roads.junctions roads.pieces) }
     ensures placed { IfOk result (λ roads. All (λ junction. IsPlace junction.at) roads.junctions) }
-    ensures whole { OnOk result ((bytes : List ℕ) → (H.told host.old).input ≡ Some bytes → (H.told host.old).place ≡ Some 0 → (H.told host.new).place ≡ Some (length bytes)) }
-    ensures refused { IfErr result (λ failure. (bytes : List ℕ) → (H.told host.old).input ≡ Some bytes → (H.told host.old).place ≡ Some 0 → IfOfInput (cause_of failure) (IsBuildRefused bytes failure)) }
+    ensures whole { OnOk result ((bytes : List ℕ) → (H.state host.old).told.input ≡ Some bytes → (H.state host.old).told.place ≡ Some 0 → (H.state host.new).told.place ≡ Some (length bytes)) }
+    ensures refused { IfErr result (λ failure. (bytes : List ℕ) → (H.state host.old).told.input ≡ Some bytes → (H.state host.old).told.place ≡ Some 0 → IfOfInput (cause_of failure) (IsBuildRefused bytes failure)) }
     ensures met { IfErr result (λ failure. IsMet (cause_of failure)) }
-    ensures others { OnlyMoved (H.told host.old) (H.told host.new) }
-    ensures reads { CountedRead (H.read_faults host.old) (H.read_faults host.new) result }
-    ensures puts { H.put_faults host.new ≡ H.put_faults host.old }
-    ensures says { H.say_faults host.new ≡ H.say_faults host.old }
-    ensures willing { H.willing host.old → H.willing host.new }
-    ensures cause { H.willing host.old → IfRead result ((H.told host.old).is_open ≡ Some false) }
+    ensures frame { OnlyReads (H.state host.old) (H.state host.new) }
+    ensures faults { CountedRead (H.state host.old).read_faults (H.state host.new).read_faults result }
+    ensures cause { (H.state host.old).willing → IfRead result ((H.state host.old).told.is_open ≡ Some false) }
 {
     match read_extract(alloc, host) {
         Ok(extract) => built_roads(alloc, &extract),

@@ -1,7 +1,6 @@
 //! Why a command isn't done.
 
 ghost use Rattle.std.specs.Prelude.{◌≡◌, ◌++◌, map, Some, IfOk, OnOk};
-ghost use Rattle.osm_blocks.specs.Faults.{framed_as};
 ghost use Rattle.mjolnir_cli.specs.Failures.{status_of, text_of, line_of, printable, of_host, of_put, of_pbf, of_extract, of_cut};
 ghost use Rattle.mjolnir_cli.specs.declared.failure.Failure.TheVariants.{OutOfMemory};
 
@@ -143,30 +142,11 @@ impl From<HostFault> for Failure {
     }
 }
 
-/// What a fault of the framing is to a reader of extracts.
-fn framed(fault: PbfFault) -> ExtractFault
-    ensures { result ≡ framed_as fault }
-{
-    match fault {
-        PbfFault::Read => ExtractFault::Read,
-        PbfFault::Truncated { at } => ExtractFault::Truncated { at },
-        PbfFault::HeaderTooLong { at, len } => ExtractFault::HeaderTooLong { at, len },
-        PbfFault::BlobTooLong { at, len } => ExtractFault::BlobTooLong { at, len },
-        PbfFault::Compressed { at, field } => ExtractFault::Compressed { at, field },
-        PbfFault::Wire { fault } => ExtractFault::Wire { fault },
-        PbfFault::NoPayload { at } => ExtractFault::NoPayload { at },
-        PbfFault::TooLarge { bytes } => ExtractFault::TooLarge { bytes },
-        PbfFault::OutOfMemory => ExtractFault::OutOfMemory,
-        PbfFault::MissingField { at, number } => ExtractFault::MissingField { at, number },
-        PbfFault::BadType { at } => ExtractFault::BadType { at },
-    }
-}
-
 impl From<PbfFault> for Failure {
     ghost from_gives = { λ fault made. made ≡ of_pbf fault };
 
     fn from(fault: PbfFault) -> Failure {
-        Failure::from(framed(fault))
+        Failure::from(ExtractFault::from(fault))
     }
 }
 

@@ -3,13 +3,14 @@
 ghost use Rattle.std.specs.Prelude.{◌≡◌, ◌⊎◌, ℕ, List, map, length, Some, IsSome, IfOk, IfErr, OnOk};
 ghost use Rattle.std.specs.String.{string_bytes};
 ghost use Rattle.host_port.specs.Told.{named};
+ghost use Rattle.host_port.specs.HostState.{OnlyOpens, OnlySays};
 ghost use Rattle.mjolnir_cli.specs.declared.failure.Failure.TheVariants.{OutOfMemory};
 ghost use Rattle.mjolnir_cli.specs.Commands.{command_asked, input_of, paths_of, IsAnswer, IsRefused, CarriesHeadline};
 ghost use Rattle.mjolnir_cli.specs.Ends.{IsStatus, EndsBy, HasCauses, IsComplete, IsHeardBy, KeepsHeadline, IsEnd};
 ghost use Rattle.mjolnir_cli.specs.Failures.{cause_of, line_of};
-ghost use Rattle.mjolnir_cli.specs.Listing.{IfOfInput, IsMet, CountedRead, IfRead, OnlyRead};
+ghost use Rattle.mjolnir_cli.specs.Listing.{IfOfInput, IsMet, CountedRead, IfRead};
 ghost use Rattle.mjolnir_cli.specs.Puts.{paths};
-ghost use Rattle.mjolnir_cli.specs.Said.{Adds, OnlySaid};
+ghost use Rattle.mjolnir_cli.specs.Said.{Adds};
 
 use crate::answer::Answer;
 use crate::blobs::blob_list;
@@ -49,14 +50,14 @@ pub fn mjolnir<R: Threads + Sync, H: Host, G: Gate>(
 ) -> u8
     ensures statuses { IsStatus result }
     // What the status says of the words, the input, the files and the text.
-    ensures ends { EndsBy result (command_asked (map string_bytes words.now)) (record { told = H.told host.old; read_faults = H.read_faults host.old; put_faults = H.put_faults host.old; say_faults = H.say_faults host.old; willing = H.willing host.old }) (record { told = H.told host.new; read_faults = H.read_faults host.new; put_faults = H.put_faults host.new; say_faults = H.say_faults host.new; willing = H.willing host.new }) }
+    ensures ends { EndsBy result (command_asked (map string_bytes words.now)) (H.state host.old) (H.state host.new) }
     // The other way round: the status where a cause stands.
-    ensures causes { HasCauses result (command_asked (map string_bytes words.now)) (record { told = H.told host.old; read_faults = H.read_faults host.old; put_faults = H.put_faults host.old; say_faults = H.say_faults host.old; willing = H.willing host.old }) (record { told = H.told host.new; read_faults = H.read_faults host.new; put_faults = H.put_faults host.new; say_faults = H.say_faults host.new; willing = H.willing host.new }) }
-    ensures complete { IsComplete result (command_asked (map string_bytes words.now)) (record { told = H.told host.old; read_faults = H.read_faults host.old; put_faults = H.put_faults host.old; say_faults = H.say_faults host.old; willing = H.willing host.old }) (record { told = H.told host.new; read_faults = H.read_faults host.new; put_faults = H.put_faults host.new; say_faults = H.say_faults host.new; willing = H.willing host.new }) }
+    ensures causes { HasCauses result (command_asked (map string_bytes words.now)) (H.state host.old) (H.state host.new) }
+    ensures complete { IsComplete result (command_asked (map string_bytes words.now)) (H.state host.old) (H.state host.new) }
     // A willing host that has the file which the command opens counts no fault.
-    ensures willing { IsHeardBy (command_asked (map string_bytes words.now)) (record { told = H.told host.old; read_faults = H.read_faults host.old; put_faults = H.put_faults host.old; say_faults = H.say_faults host.old; willing = H.willing host.old }) (record { told = H.told host.new; read_faults = H.read_faults host.new; put_faults = H.put_faults host.new; say_faults = H.say_faults host.new; willing = H.willing host.new }) }
+    ensures willing { IsHeardBy (command_asked (map string_bytes words.now)) (H.state host.old) (H.state host.new) }
     // What a command that is done promises beside its answer.
-    ensures headline { KeepsHeadline result (command_asked (map string_bytes words.now)) (record { told = H.told host.old; read_faults = H.read_faults host.old; put_faults = H.put_faults host.old; say_faults = H.say_faults host.old; willing = H.willing host.old }) (record { told = H.told host.new; read_faults = H.read_faults host.new; put_faults = H.put_faults host.new; say_faults = H.say_faults host.new; willing = H.willing host.new }) }
+    ensures headline { KeepsHeadline result (command_asked (map string_bytes words.now)) (H.state host.old) (H.state host.new) }
 {
     match asked(alloc, words) {
         Ok(Some(command)) => obey(alloc, &command, host),
@@ -68,7 +69,7 @@ pub fn mjolnir<R: Threads + Sync, H: Host, G: Gate>(
 /// Runs the command, puts its files and says its text, or says the line of the failure. Answers the status.
 fn obey<H: Host>(alloc: Global, command: &Command, host: &mut H) -> u8
     ensures statuses { IsStatus result }
-    ensures end { IsEnd result (Some command.now) (record { told = H.told host.old; read_faults = H.read_faults host.old; put_faults = H.put_faults host.old; say_faults = H.say_faults host.old; willing = H.willing host.old }) (record { told = H.told host.new; read_faults = H.read_faults host.new; put_faults = H.put_faults host.new; say_faults = H.say_faults host.new; willing = H.willing host.new }) }
+    ensures end { IsEnd result (Some command.now) (H.state host.old) (H.state host.new) }
 {
     list_agrees();
     one_end();
@@ -82,28 +83,23 @@ fn obey<H: Host>(alloc: Global, command: &Command, host: &mut H) -> u8
 /// its status.
 pub fn wordless<H: Host>(alloc: Global, host: &mut H) -> u8
     ensures status { result ≡ 7 }
-    ensures line { Adds (line_of OutOfMemory) (H.told host.old) (H.told host.new) ⊎ ((H.told host.new).said ≡ (H.told host.old).said) }
-    ensures others { OnlySaid (H.told host.old) (H.told host.new) }
-    ensures reads { H.read_faults host.new ≡ H.read_faults host.old }
-    ensures puts { H.put_faults host.new ≡ H.put_faults host.old }
+    ensures line { Adds (line_of OutOfMemory) (H.state host.old).told (H.state host.new).told ⊎ ((H.state host.new).told.said ≡ (H.state host.old).told.said) }
+    ensures frame { OnlySays (H.state host.old) (H.state host.new) }
 {
     say_failure(alloc, host, &Failure::OutOfMemory)
 }
 
 /// Runs the command up to the files that are to be put and the text that is to be said.
 fn run<H: Host>(alloc: Global, command: &Command, host: &mut H) -> Result<Answer, Failure>
-    ensures answered { IfOk result (λ answer. (bytes : List ℕ) → named (input_of command.now) (H.told host.old) ≡ Some bytes → IsAnswer command.now bytes answer) }
-    ensures told { IfOk result (λ answer. (bytes : List ℕ) → named (input_of command.now) (H.told host.old) ≡ Some bytes → CarriesHeadline command.now bytes answer) }
+    ensures answered { IfOk result (λ answer. (bytes : List ℕ) → named (input_of command.now) (H.state host.old).told ≡ Some bytes → IsAnswer command.now bytes answer) }
+    ensures told { IfOk result (λ answer. (bytes : List ℕ) → named (input_of command.now) (H.state host.old).told ≡ Some bytes → CarriesHeadline command.now bytes answer) }
     ensures paths { IfOk result (λ answer. paths answer.files ≡ paths_of command.now) }
-    ensures whole { OnOk result ((bytes : List ℕ) → named (input_of command.now) (H.told host.old) ≡ Some bytes → (H.told host.new).place ≡ Some (length bytes)) }
-    ensures refused { IfErr result (λ failure. (bytes : List ℕ) → named (input_of command.now) (H.told host.old) ≡ Some bytes → IfOfInput (cause_of failure) (IsRefused command.now bytes failure)) }
+    ensures whole { OnOk result ((bytes : List ℕ) → named (input_of command.now) (H.state host.old).told ≡ Some bytes → (H.state host.new).told.place ≡ Some (length bytes)) }
+    ensures refused { IfErr result (λ failure. (bytes : List ℕ) → named (input_of command.now) (H.state host.old).told ≡ Some bytes → IfOfInput (cause_of failure) (IsRefused command.now bytes failure)) }
     ensures met { IfErr result (λ failure. IsMet (cause_of failure)) }
-    ensures others { OnlyRead (H.told host.old) (H.told host.new) }
-    ensures reads { CountedRead (H.read_faults host.old) (H.read_faults host.new) result }
-    ensures puts { H.put_faults host.new ≡ H.put_faults host.old }
-    ensures says { H.say_faults host.new ≡ H.say_faults host.old }
-    ensures willing { H.willing host.old → H.willing host.new }
-    ensures cause { H.willing host.old → IsSome (named (input_of command.now) (H.told host.old)) → IfRead result ⊥ }
+    ensures frame { OnlyOpens (H.state host.old) (H.state host.new) }
+    ensures faults { CountedRead (H.state host.old).read_faults (H.state host.new).read_faults result }
+    ensures cause { (H.state host.old).willing → IsSome (named (input_of command.now) (H.state host.old).told) → IfRead result ⊥ }
 {
     match command {
         Command::Blobs { path } => match blob_list(alloc, path.as_str(), host) {

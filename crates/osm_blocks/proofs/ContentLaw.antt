@@ -56,7 +56,7 @@ given_ok as_fault (Err d) x e = absurd (not_ok (as_fault d) x e)
 
 -- ---- bytes
 
-same_bytes : (xs ys : List ℕ) → bytes_eq xs ys ≡ true → xs ≡ ys
+pub same_bytes : (xs ys : List ℕ) → bytes_eq xs ys ≡ true → xs ≡ ys
 same_bytes [] [] e = refl
 same_bytes [] (y ∷ ys) e = absurd cc
 same_bytes (x ∷ xs) [] e = absurd cc
@@ -69,17 +69,17 @@ same_bytes (x ∷ xs) (y ∷ ys) e = by (eqb x y) refl (same_bytes xs ys) e
 same_test : (n : ℕ) → eqb n n ≡ true
 same_test n = grind (arith, nat_tests)
 
-bytes_same : (xs : List ℕ) → bytes_eq xs xs ≡ true
+pub bytes_same : (xs : List ℕ) → bytes_eq xs xs ≡ true
 bytes_same [] = refl
 bytes_same (x ∷ xs) = ap (λ b. b && bytes_eq xs xs) (same_test x) ∙ bytes_same xs
 
-true_false : true ≡ false → ⊥
+pub true_false : true ≡ false → ⊥
 true_false e = cc
 
-not_same : (xs ys : List ℕ) → bytes_eq xs ys ≡ false → xs ≡ ys → ⊥
+pub not_same : (xs ys : List ℕ) → bytes_eq xs ys ≡ false → xs ≡ ys → ⊥
 not_same xs ys e same = true_false (sym (ap (λ l. bytes_eq l ys) same ∙ bytes_same ys) ∙ e)
 
-differ : (xs ys : List ℕ) → (xs ≡ ys → ⊥) → bytes_eq xs ys ≡ false
+pub differ : (xs ys : List ℕ) → (xs ≡ ys → ⊥) → bytes_eq xs ys ≡ false
 differ xs ys never = by (bytes_eq xs ys) refl
   where
     by : (b : Bool) → bytes_eq xs ys ≡ b → bytes_eq xs ys ≡ false
@@ -99,10 +99,10 @@ raw_bytes start bytes raw_at raw are is =
     subst InBytes p.holds.2 (each_last AreFieldBytes p.before p.field p.after all)
 
 -- a payload that is read is bytes
-abbrev RawBytes : Blob → Type 0
+abbrev pub RawBytes : Blob → Type 0
 RawBytes blob = IsKnownType blob.kind → AreBytes blob.raw
 
-triple_bytes : (at : ℕ) (bytes : List ℕ) (blob : Blob) → AreBytes bytes → IsTriple at bytes blob → RawBytes blob
+pub triple_bytes : (at : ℕ) (bytes : List ℕ) (blob : Blob) → AreBytes bytes → IsTriple at bytes blob → RawBytes blob
 triple_bytes at bytes blob are is known =
     let body = AreBytes-rest bytes (to_be_bytes w32 (length is.header) ++ is.header) is.body are is.parts in
     by blob.known (is.known.1 known) body is.is_blob
@@ -111,7 +111,7 @@ triple_bytes at bytes blob are is known =
     by true e body blob_is = raw_bytes (at + 4 + length is.header) is.body blob.raw_at blob.raw body blob_is
     by false e body blob_is = absurd (true_false (sym e))
 
-abbrev AllRaw : List Blob → Type 0
+abbrev pub AllRaw : List Blob → Type 0
 AllRaw blobs = AllByRecursion RawBytes blobs
 
 triples_bytes : (at : ℕ) (bytes : List ℕ) (blobs : List Blob) → AreBytes bytes → AreTriples at bytes blobs → AllRaw blobs
@@ -121,7 +121,7 @@ triples_bytes at bytes (blob ∷ blobs) are (triple, rest, is, split, more) =
 
 -- ---- headers
 
-read_feature : (feature : ℕ × List ℕ) → not (is_known feature.1) ≡ false → IsReadFeature feature
+pub read_feature : (feature : ℕ × List ℕ) → not (is_known feature.1) ≡ false → IsReadFeature feature
 read_feature feature e = by (bytes_eq feature.1 (codes "OsmSchema-V0.6")) refl e
   where
     other : (b : Bool) → bytes_eq feature.1 (codes "DenseNodes") ≡ b → not b ≡ false → IsReadFeature feature
@@ -132,7 +132,7 @@ read_feature feature e = by (bytes_eq feature.1 (codes "OsmSchema-V0.6")) refl e
     by true h e = inl (same_bytes feature.1 (codes "OsmSchema-V0.6") h)
     by false h e = other (bytes_eq feature.1 (codes "DenseNodes")) refl e
 
-feature_read : (feature : ℕ × List ℕ) → IsReadFeature feature → not (is_known feature.1) ≡ false
+pub feature_read : (feature : ℕ × List ℕ) → IsReadFeature feature → not (is_known feature.1) ≡ false
 feature_read feature (inl e) = ap (λ b. not (b || bytes_eq feature.1 (codes "DenseNodes"))) (ap (λ l. bytes_eq l (codes "OsmSchema-V0.6")) e ∙ bytes_same (codes "OsmSchema-V0.6"))
 feature_read feature (inr e) = by (bytes_eq feature.1 (codes "OsmSchema-V0.6")) (ap (λ l. bytes_eq l (codes "DenseNodes")) e ∙ bytes_same (codes "DenseNodes"))
   where
@@ -140,10 +140,10 @@ feature_read feature (inr e) = by (bytes_eq feature.1 (codes "OsmSchema-V0.6")) 
     by true h = refl
     by false h = ap not h
 
-abbrev unknown : ℕ × List ℕ → Bool
+abbrev pub unknown : ℕ × List ℕ → Bool
 unknown feature = not (is_known feature.1)
 
-features_known : (features : List (ℕ × List ℕ)) → find unknown features ≡ None → AllByRecursion IsReadFeature features
+pub features_known : (features : List (ℕ × List ℕ)) → find unknown features ≡ None → AllByRecursion IsReadFeature features
 features_known [] e = tt
 features_known (feature ∷ features) e = by (unknown feature) refl (features_known features) e
   where
@@ -151,7 +151,7 @@ features_known (feature ∷ features) e = by (unknown feature) refl (features_kn
     by true h rest e = absurd cc
     by false h rest e = (read_feature feature h, rest e)
 
-known_features : (features : List (ℕ × List ℕ)) → AllByRecursion IsReadFeature features → find unknown features ≡ None
+pub known_features : (features : List (ℕ × List ℕ)) → AllByRecursion IsReadFeature features → find unknown features ≡ None
 known_features [] all = refl
 known_features (feature ∷ features) all = ap (λ b. cond b (Some feature) (find unknown features)) (feature_read feature all.0) ∙ known_features features all.1
 
@@ -226,13 +226,13 @@ module _ (laws : Laws) where
   joined_none : (a : Objects) → joined a no_objects ≡ a
   joined_none a = same_objects (joined a no_objects) a (append-nil a.nodes) (append-nil a.ways) (append-nil a.relations)
 
-  none_joined : (a : Objects) → joined no_objects a ≡ a
+  pub none_joined : (a : Objects) → joined no_objects a ≡ a
   none_joined a = same_objects (joined no_objects a) a refl refl refl
 
   joined_twice : (a b c : Objects) → joined (joined a b) c ≡ joined a (joined b c)
   joined_twice a b c = same_objects (joined (joined a b) c) (joined a (joined b c)) (append_assoc a.nodes b.nodes c.nodes) (append_assoc a.ways b.ways c.ways) (append_assoc a.relations b.relations c.relations)
 
-  types_differ : codes "OSMHeader" ≡ codes "OSMData" → ⊥
+  pub types_differ : codes "OSMHeader" ≡ codes "OSMData" → ⊥
   types_differ e = cc
 
   blob_gives : (old : Draft) (blob : Blob) (new : Draft) → RawBytes blob → with_blob old blob ≡ Ok new → BlobGives old blob new
@@ -324,7 +324,7 @@ module _ (laws : Laws) where
   some_which (x ∷ before) blob (inr p) = elim (some_which before blob p) [ inl h ↦ inl (inr h) | inr h ↦ inr h ]
 
   -- a header came exactly where one is among the blobs before
-  abbrev Headed : List Blob → Draft → Type 0
+  abbrev pub Headed : List Blob → Draft → Type 0
   Headed before draft = (draft.headed ≡ true) ↔ HoldsOfOne IsHeaderBlob before
 
   next_headed : (before : List Blob) (old new : Draft) (blob : Blob) → Headed before old → (new.headed ≡ true) ↔ ((old.headed ≡ true) ⊎ IsHeaderBlob blob) → Headed (before ++ blob ∷ []) new
@@ -333,14 +333,14 @@ module _ (laws : Laws) where
     λ some. elim (some_which before blob some) [ inl h ↦ is.1 (inl (headed.1 h)) | inr h ↦ is.1 (inr h) ],
   )
 
-  record BlobsGive (before : List Blob) (old : Draft) (blobs : List Blob) (new : Draft) : Type 0 where
-    all : Objects
-    gives : AllGive blobs all
-    objects_are : new.objects ≡ joined old.objects all
-    headers_first : HeadersFirst before blobs
-    headed : Headed (before ++ blobs) new
+  pub record BlobsGive (before : List Blob) (old : Draft) (blobs : List Blob) (new : Draft) : Type 0 where
+    pub all : Objects
+    pub gives : AllGive blobs all
+    pub objects_are : new.objects ≡ joined old.objects all
+    pub headers_first : HeadersFirst before blobs
+    pub headed : Headed (before ++ blobs) new
 
-  blobs_give : (before : List Blob) (old : Draft) (blobs : List Blob) (new : Draft) → AllRaw blobs → Headed before old → with_blobs old blobs ≡ Ok new → BlobsGive before old blobs new
+  pub blobs_give : (before : List Blob) (old : Draft) (blobs : List Blob) (new : Draft) → AllRaw blobs → Headed before old → with_blobs old blobs ≡ Ok new → BlobsGive before old blobs new
   blobs_give before old [] new raw headed e =
       let so = ok_one old new e in
       record {
@@ -362,7 +362,7 @@ module _ (laws : Laws) where
         headed = subst (λ (l : List Blob). Headed l new) (append_assoc before (blob ∷ []) blobs) rest.headed;
       }
 
-  give_blobs : (before : List Blob) (old : Draft) (blobs : List Blob) (all : Objects) → AllRaw blobs → Headed before old → AllGive blobs all → HeadersFirst before blobs
+  pub give_blobs : (before : List Blob) (old : Draft) (blobs : List Blob) (all : Objects) → AllRaw blobs → Headed before old → AllGive blobs all → HeadersFirst before blobs
       → (new : Draft) × (with_blobs old blobs ≡ Ok new) × (new.objects ≡ joined old.objects all) × Headed (before ++ blobs) new
   give_blobs before old [] all raw headed none first =
       (old, refl, sym (joined_none old.objects) ∙ ap (joined old.objects) (sym none), subst (λ (l : List Blob). Headed l old) (sym (append-nil before)) headed)
@@ -377,7 +377,7 @@ module _ (laws : Laws) where
 
   -- ---- the whole file
 
-  nothing_headed : Headed [] empty_draft
+  pub nothing_headed : Headed [] empty_draft
   nothing_headed = (λ e. true_false (sym e), λ some. absurd some)
 
   pub file_of : (bytes : List ℕ) → AreBytes bytes → (lists : Objects) → Reads bytes lists → IsFileOf bytes lists

@@ -10,3 +10,5 @@ pub mod Whole
 pub mod OfBytes
 pub mod WithinLimits
 pub mod ContentLaw
+pub mod RefusalLaw
+pub mod FileAnswers

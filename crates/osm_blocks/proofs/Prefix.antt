@@ -2,9 +2,10 @@
 use Rattle.std.proofs.Common.{◌≡◌, inl, inr, ℕ, ◌+◌, ◌-◌, ◌≤◌, Bool, true, false, List, [], ◌∷◌, ◌++◌, length, drop, Some, Result, Ok, Err, refl, sym, ap, ◌∙◌, subst, arith}
 use Rattle.std.specs.Option.{option_map}
 use Rattle.host_port.specs.Told.{Told, moved}
+use Rattle.host_port.specs.HostState.{HostState, OnlyReads}
+use Rattle.host_port.proofs.HostFrames.{reads_none, reads_then}
 use Rattle.osm_model.specs.declared.extract.Extract.{Extract}
 use Rattle.pbf_blobs.specs.declared.blob.Blob.{Blob}
-use Rattle.pbf_blobs.specs.Input.{OnlyMoved}
 use Rattle.pbf_blobs.specs.Next.{Outcome, Ends, Gives, Fails, next_of}
 use Rattle.pbf_blobs.specs.Frames.{Frames}
 use Rattle.pbf_blobs.specs.Answers.{Where}
@@ -89,53 +90,38 @@ ends_unread size draft fault (inr (inr h)) = ap is_read h.is
 pub moved_to : (told : Told) (n p q : ℕ) → told.place ≡ Some p → p + n ≡ q → (moved n told).place ≡ Some q
 moved_to told n p q e f = ap (λ o. option_map (λ x. x + n) o) e ∙ ap (λ x. Some x) f
 
-pub OnlyMoved-refl : (a : Told) → OnlyMoved a a
-OnlyMoved-refl a = record { files = refl; is_open = refl; input = refl; puts = refl; said = refl }
-
-pub OnlyMoved-trans : (a b c : Told) → OnlyMoved a b → OnlyMoved b c → OnlyMoved a c
-OnlyMoved-trans a b c p q = record {
-  files = q.files ∙ p.files;
-  is_open = q.is_open ∙ p.is_open;
-  input = q.input ∙ p.input;
-  puts = q.puts ∙ p.puts;
-  said = q.said ∙ p.said;
-}
-
 -- what has been read of the input, and that no more was
 pub record Stands (bytes : List ℕ) (at : ℕ) (draft : Draft) : Type 0 where
   pub read : ReadTo bytes at draft
   pub within : at ≤ length bytes
 
-pub record Leads (before now : Told) (at : ℕ) (draft : Draft) : Type 0 where
-  pub place : before.place ≡ Some 0 → now.place ≡ Some at
-  pub others : OnlyMoved before now
-  pub stands : (bytes : List ℕ) → before.input ≡ Some bytes → before.place ≡ Some 0 → Stands bytes at draft
+pub record Leads (before now : HostState) (at : ℕ) (draft : Draft) : Type 0 where
+  pub place : before.told.place ≡ Some 0 → now.told.place ≡ Some at
+  pub frame : OnlyReads before now
+  pub stands : (bytes : List ℕ) → before.told.input ≡ Some bytes → before.told.place ≡ Some 0 → Stands bytes at draft
 
 -- what the loop over the blobs keeps, of the host and of the draft
-pub record Steady (before now : Told) (willing_before willing_now : Type 0) (reads_before reads_now puts_before puts_now says_before says_now : ℕ) (at : ℕ) (draft : Draft) (are_placed : Type 0) : Type 0 where
+pub record Steady (before now : HostState) (at : ℕ) (draft : Draft) (are_placed : Type 0) : Type 0 where
   pub leads : Leads before now at draft
   pub low : at ≤ 536870912
   pub placed : are_placed
-  pub reads : reads_now ≡ reads_before
-  pub puts : puts_now ≡ puts_before
-  pub says : says_now ≡ says_before
-  pub willing : willing_before → willing_now
+  pub no_fault : now.read_faults ≡ before.read_faults
 
-pub Leads-none : (told : Told) → Leads told told 0 empty_draft
-Leads-none told = record { place = λ e. e; others = OnlyMoved-refl told; stands = λ bytes input place. record { read = ReadTo-none bytes; within = omega arith } }
+pub Leads-none : (state : HostState) → Leads state state 0 empty_draft
+Leads-none state = record { place = λ e. e; frame = reads_none state; stands = λ bytes input place. record { read = ReadTo-none bytes; within = omega arith } }
 
 -- the next blob
-pub Leads-next : (before now later : Told) (at end : ℕ) (old new : Draft) → Leads before now at old → at + 4 ≤ end → later ≡ moved (end - at) now → OnlyMoved now later
-    → ((bytes : List ℕ) → now.input ≡ Some bytes → now.place ≡ Some at → (blob : Blob) × (next_of at (drop at bytes) ≡ Gives blob) × (end ≡ blob.end) × (with_blob old blob ≡ Ok new))
-    → ((bytes : List ℕ) → now.input ≡ Some bytes → now.place ≡ Some at → end ≤ length bytes)
+pub Leads-next : (before now later : HostState) (at end : ℕ) (old new : Draft) → Leads before now at old → at + 4 ≤ end → later.told ≡ moved (end - at) now.told → OnlyReads now later
+    → ((bytes : List ℕ) → now.told.input ≡ Some bytes → now.told.place ≡ Some at → (blob : Blob) × (next_of at (drop at bytes) ≡ Gives blob) × (end ≡ blob.end) × (with_blob old blob ≡ Ok new))
+    → ((bytes : List ℕ) → now.told.input ≡ Some bytes → now.told.place ≡ Some at → end ≤ length bytes)
     → Leads before later end new
-Leads-next before now later at end old new leads ahead moves others next within = record {
-  place = λ e. ap (λ (t : Told). t.place) moves ∙ moved_to now (end - at) at end (leads.place e) (omega arith);
-  others = OnlyMoved-trans before now later leads.others others;
+Leads-next before now later at end old new leads ahead moves frame next within = record {
+  place = λ e. ap (λ (t : Told). t.place) moves ∙ moved_to now.told (end - at) at end (leads.place e) (omega arith);
+  frame = reads_then before now later leads.frame frame;
   stands = λ bytes input place.
-      let b = next bytes (leads.others.input ∙ input) (leads.place place) in
+      let b = next bytes (leads.frame.input ∙ input) (leads.place place) in
       record {
         read = subst (λ (n : ℕ). ReadTo bytes n new) (sym b.2) (ReadTo-next bytes at b.0 old new (leads.stands bytes input place).read b.1 b.3);
-        within = within bytes (leads.others.input ∙ input) (leads.place place);
+        within = within bytes (leads.frame.input ∙ input) (leads.place place);
       };
 }

@@ -6,3 +6,4 @@ pub mod Extracts
 pub mod Steps
 pub mod ReadAnswers
 pub mod FileContent
+pub mod FileFaults

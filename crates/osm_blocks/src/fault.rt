@@ -74,21 +74,23 @@ pub enum ExtractFault {
 }
 
 /// What a fault of the framing is to a reader of extracts.
-pub fn framed(fault: PbfFault) -> ExtractFault
-    ensures { result ≡ framed_as fault }
-{
-    match fault {
-        PbfFault::Read => ExtractFault::Read,
-        PbfFault::Truncated { at } => ExtractFault::Truncated { at },
-        PbfFault::HeaderTooLong { at, len } => ExtractFault::HeaderTooLong { at, len },
-        PbfFault::BlobTooLong { at, len } => ExtractFault::BlobTooLong { at, len },
-        PbfFault::Compressed { at, field } => ExtractFault::Compressed { at, field },
-        PbfFault::Wire { fault } => ExtractFault::Wire { fault },
-        PbfFault::NoPayload { at } => ExtractFault::NoPayload { at },
-        PbfFault::TooLarge { bytes } => ExtractFault::TooLarge { bytes },
-        PbfFault::OutOfMemory => ExtractFault::OutOfMemory,
-        PbfFault::MissingField { at, number } => ExtractFault::MissingField { at, number },
-        PbfFault::BadType { at } => ExtractFault::BadType { at },
+impl From<PbfFault> for ExtractFault {
+    ghost from_gives = { λ fault made. made ≡ framed_as fault };
+
+    fn from(fault: PbfFault) -> ExtractFault {
+        match fault {
+            PbfFault::Read => ExtractFault::Read,
+            PbfFault::Truncated { at } => ExtractFault::Truncated { at },
+            PbfFault::HeaderTooLong { at, len } => ExtractFault::HeaderTooLong { at, len },
+            PbfFault::BlobTooLong { at, len } => ExtractFault::BlobTooLong { at, len },
+            PbfFault::Compressed { at, field } => ExtractFault::Compressed { at, field },
+            PbfFault::Wire { fault } => ExtractFault::Wire { fault },
+            PbfFault::NoPayload { at } => ExtractFault::NoPayload { at },
+            PbfFault::TooLarge { bytes } => ExtractFault::TooLarge { bytes },
+            PbfFault::OutOfMemory => ExtractFault::OutOfMemory,
+            PbfFault::MissingField { at, number } => ExtractFault::MissingField { at, number },
+            PbfFault::BadType { at } => ExtractFault::BadType { at },
+        }
     }
 }
 

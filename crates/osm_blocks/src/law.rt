@@ -9,6 +9,7 @@ ghost use Rattle.osm_blocks.specs.declared.fault.ExtractFault.{ExtractFault};
 ghost use Rattle.osm_blocks.specs.Faults.{is_of_bytes};
 ghost use Rattle.osm_blocks.specs.Counts.{counts_of, first_past};
 ghost use Rattle.osm_blocks.specs.FileContent.{IsFileOf};
+ghost use Rattle.osm_blocks.specs.FileFaults.{IsFaultyFile};
 ghost use Rattle.osm_blocks.specs.Extracts.{Reading, IsReading, IsRead, Reads, Refuses, lists_of};
 
 use osm_messages::block_law;
@@ -31,6 +32,16 @@ pub fn reading_law()
 /// and the objects that its blocks mean are these, each kind in order of id, within the limits.
 pub fn content_law()
     ensures { (bytes : List ℕ) → AreBytes bytes → (lists : Objects) → Reads bytes lists ↔ IsFileOf bytes lists }
+{
+    framing_law();
+    block_law();
+    object_law();
+}
+
+/// A file has a fault exactly where it is the first one by the format: that of the bytes behind the last whole triple,
+/// or that of the first blob with one, or, where no blob has one, that of the whole file.
+pub fn refusal_law()
+    ensures { (bytes : List ℕ) → AreBytes bytes → (fault : ExtractFault) → Refuses bytes fault ↔ IsFaultyFile bytes fault }
 {
     framing_law();
     block_law();

@@ -12,7 +12,7 @@ mod order;
 mod read;
 
 pub use fault::{Counted, ExtractFault};
-pub use law::{content_law, reading_law};
+pub use law::{content_law, reading_law, refusal_law};
 pub use read::read_extract;
 
 #[cfg(test)]

@@ -1,14 +1,20 @@
 //! The whole file.
 
-ghost use Rattle.std.specs.Prelude.{◌≡◌, ◌+◌, ◌≤◌, ℕ, List, drop, false, Some, OnOk, IfOk, IfSome, MatchOption, length};
+ghost use Rattle.std.specs.Prelude.{◌≡◌, ◌+◌, ◌≤◌, ℕ, List, drop, false, Some, OnOk, IfOk, IfErr, IfSome, MatchOption, length};
 ghost use Rattle.host_port.specs.Told.{moved};
-ghost use Rattle.pbf_blobs.specs.Input.{OnlyMoved};
+ghost use Rattle.host_port.specs.HostState.{OnlyReads};
 ghost use Rattle.pbf_blobs.specs.Next.{next_of};
+ghost use Rattle.pbf_blobs.specs.Answers.{Where};
+ghost use Rattle.osm_blocks.specs.Extracts.{lists_of};
+ghost use Rattle.osm_blocks.specs.Faults.{is_of_bytes};
+ghost use Rattle.osm_blocks.specs.FileContent.{IsFileOf};
+ghost use Rattle.osm_blocks.specs.FileFaults.{IsFaultyFile};
 ghost use Rattle.osm_blocks.specs.Steps.{seen, ArePlaced};
 ghost use Rattle.osm_blocks.specs.ReadAnswers.{AddsNext, Answers, CountedRead, IfRead, bytes_to};
 
 use crate::draft::Draft;
-use crate::fault::{ExtractFault, framed};
+use crate::fault::ExtractFault;
+use crate::law::{content_law, refusal_law};
 use host_port::Host;
 use osm_model::Extract;
 use pbf_blobs::next_blob;
@@ -23,19 +29,16 @@ fn add_next<H: Host>(
     draft: &mut Draft,
 ) -> Result<Option<u64>, ExtractFault>
     requires { at ≤ 536870912 }
-    ensures bytes { (input : List ℕ) → (H.told host.old).input ≡ Some input → (H.told host.old).place ≡ Some at →
+    ensures bytes { (input : List ℕ) → (H.state host.old).told.input ≡ Some input → (H.state host.old).told.place ≡ Some at →
         AddsNext (seen draft.old) (seen draft.new) result (next_of at (drop at input)) }
     ensures draft { ArePlaced draft.old → OnOk result (ArePlaced draft.new) }
-    ensures within { (input : List ℕ) → (H.told host.old).input ≡ Some input → (H.told host.old).place ≡ Some at →
+    ensures within { (input : List ℕ) → (H.state host.old).told.input ≡ Some input → (H.state host.old).told.place ≡ Some at →
         IfOk result (λ end. MatchOption end (length input ≤ at) (λ end. end ≤ length input)) }
-    ensures moved { IfOk result (λ end. H.told host.new ≡ moved (bytes_to at end) (H.told host.old)) }
+    ensures moved { IfOk result (λ end. (H.state host.new).told ≡ moved (bytes_to at end) (H.state host.old).told) }
     ensures ahead { IfOk result (λ end. IfSome end (λ end. (at + 4 ≤ end) × (end ≤ 536870912))) }
-    ensures others { OnlyMoved (H.told host.old) (H.told host.new) }
-    ensures reads { CountedRead (H.read_faults host.old) (H.read_faults host.new) result }
-    ensures puts { H.put_faults host.new ≡ H.put_faults host.old }
-    ensures says { H.say_faults host.new ≡ H.say_faults host.old }
-    ensures willing { H.willing host.old → H.willing host.new }
-    ensures cause { H.willing host.old → IfRead result ((H.told host.old).is_open ≡ Some false) }
+    ensures frame { OnlyReads (H.state host.old) (H.state host.new) }
+    ensures faults { CountedRead (H.state host.old).read_faults (H.state host.new).read_faults result }
+    ensures cause { (H.state host.old).willing → IfRead result ((H.state host.old).told.is_open ≡ Some false) }
 {
     match next_blob(alloc, host, at) {
         Ok(Some(blob)) => match draft.add_blob(alloc, &blob) {
@@ -43,7 +46,7 @@ fn add_next<H: Host>(
             Err(fault) => Err(fault),
         },
         Ok(None) => Ok(None),
-        Err(fault) => Err(framed(fault)),
+        Err(fault) => Err(ExtractFault::from(fault)),
     }
 }
 
@@ -52,17 +55,21 @@ fn add_next<H: Host>(
 /// `Ok` is the extract of the bytes, and the input was read to its end. Each fault of the bytes comes exactly where it
 /// is their first one (`docs/PBF.md`). After a fault the place in the input isn't told here.
 pub fn read_extract<H: Host>(alloc: Global, host: &mut H) -> Result<Extract, ExtractFault>
-    ensures bytes { (input : List ℕ) → (H.told host.old).input ≡ Some input → (H.told host.old).place ≡ Some 0 →
+    ensures bytes { (input : List ℕ) → (H.state host.old).told.input ≡ Some input → (H.state host.old).told.place ≡ Some 0 →
         Answers input result }
-    ensures end { (input : List ℕ) → (H.told host.old).input ≡ Some input → (H.told host.old).place ≡ Some 0 →
-        OnOk result ((H.told host.new).place ≡ Some (length input)) }
-    ensures others { OnlyMoved (H.told host.old) (H.told host.new) }
-    ensures reads { CountedRead (H.read_faults host.old) (H.read_faults host.new) result }
-    ensures puts { H.put_faults host.new ≡ H.put_faults host.old }
-    ensures says { H.say_faults host.new ≡ H.say_faults host.old }
-    ensures willing { H.willing host.old → H.willing host.new }
-    ensures cause { H.willing host.old → IfRead result ((H.told host.old).is_open ≡ Some false) }
+    ensures end { (input : List ℕ) → (H.state host.old).told.input ≡ Some input → (H.state host.old).told.place ≡ Some 0 →
+        OnOk result ((H.state host.new).told.place ≡ Some (length input)) }
+    // The same in the words of the format. What a host tells are bytes, so no premise says so.
+    ensures file { (input : List ℕ) → (H.state host.old).told.input ≡ Some input → (H.state host.old).told.place ≡ Some 0 →
+        IfOk result (λ extract. IsFileOf input (lists_of extract)) }
+    ensures faulty { (input : List ℕ) → (H.state host.old).told.input ≡ Some input → (H.state host.old).told.place ≡ Some 0 →
+        IfErr result (λ fault. Where (is_of_bytes fault) (IsFaultyFile input fault)) }
+    ensures frame { OnlyReads (H.state host.old) (H.state host.new) }
+    ensures faults { CountedRead (H.state host.old).read_faults (H.state host.new).read_faults result }
+    ensures cause { (H.state host.old).willing → IfRead result ((H.state host.old).told.is_open ≡ Some false) }
 {
+    content_law();
+    refusal_law();
     let mut draft = Draft::new(alloc);
     let mut at = 0;
     loop {

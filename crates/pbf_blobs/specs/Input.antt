@@ -13,11 +13,3 @@ Fills told n buf = OfRest told (λ rest. take n buf ≡ take (length buf) rest)
 -- These are the front and the next bytes of the input: so many, or all up to its end.
 abbrev pub Extends : Told → List ℕ → ℕ → List ℕ → Type 0
 Extends told front left bytes = OfRest told (λ rest. bytes ≡ front ++ take left rest)
-
--- Whatever a reading call answers, it changes nothing that is told but the place.
-pub record OnlyMoved (old new : Told) : Type 0 where
-  pub files : new.files ≡ old.files
-  pub is_open : new.is_open ≡ old.is_open
-  pub input : new.input ≡ old.input
-  pub puts : new.puts ≡ old.puts
-  pub said : new.said ≡ old.said

@@ -2,8 +2,9 @@
 
 ghost use Rattle.std.specs.Prelude.{◌≡◌, ◌+◌, ◌-◌, ◌≤◌, ◌++◌, length, replicate, take, Some, false, IfOk};
 ghost use Rattle.host_port.specs.Told.{moved};
+ghost use Rattle.host_port.specs.HostState.{OnlyReads};
 ghost use Rattle.host_port.specs.Faults.{Counted, IfFailed, NeedsNone};
-ghost use Rattle.pbf_blobs.specs.Input.{Fills, Extends, OnlyMoved};
+ghost use Rattle.pbf_blobs.specs.Input.{Fills, Extends};
 
 use host_port::{Host, HostFault};
 use std::alloc::{AllocError, Global};
@@ -11,15 +12,12 @@ use std::alloc::{AllocError, Global};
 /// Reads until the buffer is full or the input ends, and answers how many bytes it read.
 pub fn read_full<H: Host>(host: &mut H, buf: &mut [u8]) -> Result<usize, HostFault>
     ensures most { IfOk result (λ n. n ≤ length buf.new) }
-    ensures bytes { IfOk result (λ n. Fills (H.told host.old) n buf.new) }
-    ensures moved { IfOk result (λ n. H.told host.new ≡ moved n (H.told host.old)) }
-    ensures others { OnlyMoved (H.told host.old) (H.told host.new) }
+    ensures bytes { IfOk result (λ n. Fills (H.state host.old).told n buf.new) }
+    ensures moved { IfOk result (λ n. (H.state host.new).told ≡ moved n (H.state host.old).told) }
     ensures memory { NeedsNone result }
-    ensures reads { Counted (H.read_faults host.old) (H.read_faults host.new) result }
-    ensures puts { H.put_faults host.new ≡ H.put_faults host.old }
-    ensures says { H.say_faults host.new ≡ H.say_faults host.old }
-    ensures willing { H.willing host.old → H.willing host.new }
-    ensures cause { H.willing host.old → IfFailed result ((H.told host.old).is_open ≡ Some false) }
+    ensures frame { OnlyReads (H.state host.old) (H.state host.new) }
+    ensures faults { Counted (H.state host.old).read_faults (H.state host.new).read_faults result }
+    ensures cause { (H.state host.old).willing → IfFailed result ((H.state host.old).told.is_open ≡ Some false) }
 {
     let mut filled = 0;
     while filled < buf.len() {
@@ -43,14 +41,11 @@ pub fn read_behind<H: Host>(
     ensures front { IfOk result (λ bytes. take (length front.now) bytes.items ≡ front.now) }
     ensures least { IfOk result (λ bytes. length front.now ≤ length bytes.items) }
     ensures most { IfOk result (λ bytes. length bytes.items ≤ length front.now + left) }
-    ensures bytes { IfOk result (λ bytes. Extends (H.told host.old) front.now left bytes.items) }
-    ensures moved { IfOk result (λ bytes. H.told host.new ≡ moved (length bytes.items - length front.now) (H.told host.old)) }
-    ensures others { OnlyMoved (H.told host.old) (H.told host.new) }
-    ensures reads { Counted (H.read_faults host.old) (H.read_faults host.new) result }
-    ensures puts { H.put_faults host.new ≡ H.put_faults host.old }
-    ensures says { H.say_faults host.new ≡ H.say_faults host.old }
-    ensures willing { H.willing host.old → H.willing host.new }
-    ensures cause { H.willing host.old → IfFailed result ((H.told host.old).is_open ≡ Some false) }
+    ensures bytes { IfOk result (λ bytes. Extends (H.state host.old).told front.now left bytes.items) }
+    ensures moved { IfOk result (λ bytes. (H.state host.new).told ≡ moved (length bytes.items - length front.now) (H.state host.old).told) }
+    ensures frame { OnlyReads (H.state host.old) (H.state host.new) }
+    ensures faults { Counted (H.state host.old).read_faults (H.state host.new).read_faults result }
+    ensures cause { (H.state host.old).willing → IfFailed result ((H.state host.old).told.is_open ≡ Some false) }
 {
     let Ok(mut bytes) = with_room(alloc, front, left) else {
         return Err(HostFault::OutOfMemory);

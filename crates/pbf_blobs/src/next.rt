@@ -2,7 +2,8 @@
 
 ghost use Rattle.std.specs.Prelude.{◌≡◌, ◌+◌, ◌-◌, ◌<◌, ◌≤◌, ◌^◌, ◌++◌, List, ℕ, min, drop, length, true, false, Some, None, IfErr, IfOk, IfSome, MatchOption};
 ghost use Rattle.host_port.specs.Told.{moved};
-ghost use Rattle.pbf_blobs.specs.Input.{OfRest, OnlyMoved};
+ghost use Rattle.host_port.specs.HostState.{OnlyReads};
+ghost use Rattle.pbf_blobs.specs.Input.{OfRest};
 ghost use Rattle.pbf_blobs.specs.Answers.{Answers, AnswersBlob, CountedRead, IfRead, bytes_over, is_read};
 ghost use Rattle.pbf_blobs.specs.Triple.{is_known};
 ghost use Rattle.pbf_blobs.specs.Next.{next_of, framed, sized, bodied, paid, payload_of, ShowsPayload};
@@ -33,19 +34,16 @@ const MOST_FRONT: usize = 6;
 /// bytes the place in the input isn't told here.
 pub fn next_blob<H: Host>(alloc: Global, host: &mut H, at: u64) -> Result<Option<Blob>, PbfFault>
     requires { at ≤ 536870912 }
-    ensures bytes { (input : List ℕ) → (H.told host.old).input ≡ Some input → (H.told host.old).place ≡ Some at →
+    ensures bytes { (input : List ℕ) → (H.state host.old).told.input ≡ Some input → (H.state host.old).told.place ≡ Some at →
         Answers result (next_of at (drop at input)) }
-    ensures within { (input : List ℕ) → (H.told host.old).input ≡ Some input → (H.told host.old).place ≡ Some at →
+    ensures within { (input : List ℕ) → (H.state host.old).told.input ≡ Some input → (H.state host.old).told.place ≡ Some at →
         IfOk result (λ found. MatchOption found (length input ≤ at) (λ blob. blob.end ≤ length input)) }
-    ensures moved { IfOk result (λ found. H.told host.new ≡ moved (bytes_over at found) (H.told host.old)) }
+    ensures moved { IfOk result (λ found. (H.state host.new).told ≡ moved (bytes_over at found) (H.state host.old).told) }
     ensures ahead { IfOk result (λ found. IfSome found (λ blob. (at + 4 ≤ blob.end) × (blob.end ≤ 536870912))) }
     ensures raw { IfOk result (λ found. IfSome found (λ blob. blob.raw_at + length blob.raw < 2 ^ 64)) }
-    ensures others { OnlyMoved (H.told host.old) (H.told host.new) }
-    ensures reads { CountedRead (H.read_faults host.old) (H.read_faults host.new) result }
-    ensures puts { H.put_faults host.new ≡ H.put_faults host.old }
-    ensures says { H.say_faults host.new ≡ H.say_faults host.old }
-    ensures willing { H.willing host.old → H.willing host.new }
-    ensures cause { H.willing host.old → IfRead result ((H.told host.old).is_open ≡ Some false) }
+    ensures frame { OnlyReads (H.state host.old) (H.state host.new) }
+    ensures faults { CountedRead (H.state host.old).read_faults (H.state host.new).read_faults result }
+    ensures cause { (H.state host.old).willing → IfRead result ((H.state host.old).told.is_open ≡ Some false) }
 {
     let mut length = [0; 4];
     let count = read_full(host, &mut length)?;
@@ -72,16 +70,13 @@ pub fn next_blob<H: Host>(alloc: Global, host: &mut H, at: u64) -> Result<Option
 fn after_length<H: Host>(alloc: Global, host: &mut H, at: u64, len: usize) -> Result<Blob, PbfFault>
     requires place { at ≤ 536870912 }
     requires short { len < 65536 }
-    ensures bytes { OfRest (H.told host.old) (λ rest. AnswersBlob result (framed at len rest)) }
-    ensures moved { IfOk result (λ blob. H.told host.new ≡ moved (blob.end - (at + 4)) (H.told host.old)) }
+    ensures bytes { OfRest (H.state host.old).told (λ rest. AnswersBlob result (framed at len rest)) }
+    ensures moved { IfOk result (λ blob. (H.state host.new).told ≡ moved (blob.end - (at + 4)) (H.state host.old).told) }
     ensures ahead { IfOk result (λ blob. (at + 4 ≤ blob.end) × (blob.end ≤ 536870912)) }
     ensures raw { IfOk result (λ blob. blob.raw_at + length blob.raw < 2 ^ 64) }
-    ensures others { OnlyMoved (H.told host.old) (H.told host.new) }
-    ensures reads { CountedRead (H.read_faults host.old) (H.read_faults host.new) result }
-    ensures puts { H.put_faults host.new ≡ H.put_faults host.old }
-    ensures says { H.say_faults host.new ≡ H.say_faults host.old }
-    ensures willing { H.willing host.old → H.willing host.new }
-    ensures cause { H.willing host.old → IfRead result ((H.told host.old).is_open ≡ Some false) }
+    ensures frame { OnlyReads (H.state host.old) (H.state host.new) }
+    ensures faults { CountedRead (H.state host.old).read_faults (H.state host.new).read_faults result }
+    ensures cause { (H.state host.old).willing → IfRead result ((H.state host.old).told.is_open ≡ Some false) }
 {
     let header = read_behind(alloc, host, &[], len)?;
     if header.len() < len {
@@ -108,16 +103,13 @@ fn after_length<H: Host>(alloc: Global, host: &mut H, at: u64, len: usize) -> Re
 /// Reads the Blob, where its size is within the limits.
 fn after_header<H: Host>(alloc: Global, host: &mut H, head: Head) -> Result<Blob, PbfFault>
     requires body { head.body_at < 2 ^ 32 }
-    ensures bytes { OfRest (H.told host.old) (λ rest. AnswersBlob result (sized head rest)) }
-    ensures moved { IfOk result (λ blob. H.told host.new ≡ moved head.size (H.told host.old)) }
+    ensures bytes { OfRest (H.state host.old).told (λ rest. AnswersBlob result (sized head rest)) }
+    ensures moved { IfOk result (λ blob. (H.state host.new).told ≡ moved head.size (H.state host.old).told) }
     ensures end { IfOk result (λ blob. (blob.end ≡ head.body_at + head.size) × (blob.end ≤ 536870912)) }
     ensures raw { IfOk result (λ blob. blob.raw_at + length blob.raw < 2 ^ 64) }
-    ensures others { OnlyMoved (H.told host.old) (H.told host.new) }
-    ensures reads { CountedRead (H.read_faults host.old) (H.read_faults host.new) result }
-    ensures puts { H.put_faults host.new ≡ H.put_faults host.old }
-    ensures says { H.say_faults host.new ≡ H.say_faults host.old }
-    ensures willing { H.willing host.old → H.willing host.new }
-    ensures cause { H.willing host.old → IfRead result ((H.told host.old).is_open ≡ Some false) }
+    ensures frame { OnlyReads (H.state host.old) (H.state host.new) }
+    ensures faults { CountedRead (H.state host.old).read_faults (H.state host.new).read_faults result }
+    ensures cause { (H.state host.old).willing → IfRead result ((H.state host.old).told.is_open ≡ Some false) }
 {
     if head.size > MOST_BLOB {
         return Err(PbfFault::BlobTooLong {
@@ -136,16 +128,13 @@ fn after_header<H: Host>(alloc: Global, host: &mut H, head: Head) -> Result<Blob
 fn any_blob<H: Host>(alloc: Global, host: &mut H, head: Head) -> Result<Blob, PbfFault>
     requires size { head.size ≤ 33554496 }
     requires end { head.body_at + head.size ≤ 536870912 }
-    ensures bytes { OfRest (H.told host.old) (λ rest. AnswersBlob result (bodied head rest)) }
-    ensures moved { IfOk result (λ blob. H.told host.new ≡ moved head.size (H.told host.old)) }
+    ensures bytes { OfRest (H.state host.old).told (λ rest. AnswersBlob result (bodied head rest)) }
+    ensures moved { IfOk result (λ blob. (H.state host.new).told ≡ moved head.size (H.state host.old).told) }
     ensures end { IfOk result (λ blob. blob.end ≡ head.body_at + head.size) }
     ensures raw { IfOk result (λ blob. blob.raw_at + length blob.raw < 2 ^ 64) }
-    ensures others { OnlyMoved (H.told host.old) (H.told host.new) }
-    ensures reads { CountedRead (H.read_faults host.old) (H.read_faults host.new) result }
-    ensures puts { H.put_faults host.new ≡ H.put_faults host.old }
-    ensures says { H.say_faults host.new ≡ H.say_faults host.old }
-    ensures willing { H.willing host.old → H.willing host.new }
-    ensures cause { H.willing host.old → IfRead result ((H.told host.old).is_open ≡ Some false) }
+    ensures frame { OnlyReads (H.state host.old) (H.state host.new) }
+    ensures faults { CountedRead (H.state host.old).read_faults (H.state host.new).read_faults result }
+    ensures cause { (H.state host.old).willing → IfRead result ((H.state host.old).told.is_open ≡ Some false) }
 {
     if is_known(head.kind.as_str()) {
         known_blob(alloc, host, head)
@@ -159,16 +148,13 @@ fn other_blob<H: Host>(alloc: Global, host: &mut H, head: Head) -> Result<Blob, 
     requires size { head.size ≤ 33554496 }
     requires end { head.body_at + head.size ≤ 536870912 }
     requires other { is_known head.kind ≡ false }
-    ensures bytes { OfRest (H.told host.old) (λ rest. AnswersBlob result (bodied head rest)) }
-    ensures moved { IfOk result (λ blob. H.told host.new ≡ moved head.size (H.told host.old)) }
+    ensures bytes { OfRest (H.state host.old).told (λ rest. AnswersBlob result (bodied head rest)) }
+    ensures moved { IfOk result (λ blob. (H.state host.new).told ≡ moved head.size (H.state host.old).told) }
     ensures end { IfOk result (λ blob. blob.end ≡ head.body_at + head.size) }
     ensures raw { IfOk result (λ blob. blob.raw_at + length blob.raw < 2 ^ 64) }
-    ensures others { OnlyMoved (H.told host.old) (H.told host.new) }
-    ensures reads { CountedRead (H.read_faults host.old) (H.read_faults host.new) result }
-    ensures puts { H.put_faults host.new ≡ H.put_faults host.old }
-    ensures says { H.say_faults host.new ≡ H.say_faults host.old }
-    ensures willing { H.willing host.old → H.willing host.new }
-    ensures cause { H.willing host.old → IfRead result ((H.told host.old).is_open ≡ Some false) }
+    ensures frame { OnlyReads (H.state host.old) (H.state host.new) }
+    ensures faults { CountedRead (H.state host.old).read_faults (H.state host.new).read_faults result }
+    ensures cause { (H.state host.old).willing → IfRead result ((H.state host.old).told.is_open ≡ Some false) }
 {
     let body = read_behind(alloc, host, &[], head.size as usize)?;
     if (body.len() as u64) < head.size {
@@ -191,16 +177,13 @@ fn known_blob<H: Host>(alloc: Global, host: &mut H, head: Head) -> Result<Blob, 
     requires size { head.size ≤ 33554496 }
     requires end { head.body_at + head.size ≤ 536870912 }
     requires known { is_known head.kind ≡ true }
-    ensures bytes { OfRest (H.told host.old) (λ rest. AnswersBlob result (bodied head rest)) }
-    ensures moved { IfOk result (λ blob. H.told host.new ≡ moved head.size (H.told host.old)) }
+    ensures bytes { OfRest (H.state host.old).told (λ rest. AnswersBlob result (bodied head rest)) }
+    ensures moved { IfOk result (λ blob. (H.state host.new).told ≡ moved head.size (H.state host.old).told) }
     ensures end { IfOk result (λ blob. blob.end ≡ head.body_at + head.size) }
     ensures raw { IfOk result (λ blob. blob.raw_at + length blob.raw < 2 ^ 64) }
-    ensures others { OnlyMoved (H.told host.old) (H.told host.new) }
-    ensures reads { CountedRead (H.read_faults host.old) (H.read_faults host.new) result }
-    ensures puts { H.put_faults host.new ≡ H.put_faults host.old }
-    ensures says { H.say_faults host.new ≡ H.say_faults host.old }
-    ensures willing { H.willing host.old → H.willing host.new }
-    ensures cause { H.willing host.old → IfRead result ((H.told host.old).is_open ≡ Some false) }
+    ensures frame { OnlyReads (H.state host.old) (H.state host.new) }
+    ensures faults { CountedRead (H.state host.old).read_faults (H.state host.new).read_faults result }
+    ensures cause { (H.state host.old).willing → IfRead result ((H.state host.old).told.is_open ≡ Some false) }
 {
     let mut front = [0; MOST_FRONT];
     let room = head.size.min(MOST_FRONT as u64) as usize;
@@ -222,16 +205,13 @@ fn after_front<H: Host>(
     requires end { head.body_at + head.size ≤ 536870912 }
     requires known { is_known head.kind ≡ true }
     requires front { length front.now ≡ min head.size 6 }
-    ensures bytes { OfRest (H.told host.old) (λ rest. AnswersBlob result (bodied head (front.now ++ rest))) }
-    ensures moved { IfOk result (λ blob. H.told host.new ≡ moved (head.size - length front.now) (H.told host.old)) }
+    ensures bytes { OfRest (H.state host.old).told (λ rest. AnswersBlob result (bodied head (front.now ++ rest))) }
+    ensures moved { IfOk result (λ blob. (H.state host.new).told ≡ moved (head.size - length front.now) (H.state host.old).told) }
     ensures end { IfOk result (λ blob. blob.end ≡ head.body_at + head.size) }
     ensures raw { IfOk result (λ blob. blob.raw_at + length blob.raw < 2 ^ 64) }
-    ensures others { OnlyMoved (H.told host.old) (H.told host.new) }
-    ensures reads { CountedRead (H.read_faults host.old) (H.read_faults host.new) result }
-    ensures puts { H.put_faults host.new ≡ H.put_faults host.old }
-    ensures says { H.say_faults host.new ≡ H.say_faults host.old }
-    ensures willing { H.willing host.old → H.willing host.new }
-    ensures cause { H.willing host.old → IfRead result ((H.told host.old).is_open ≡ Some false) }
+    ensures frame { OnlyReads (H.state host.old) (H.state host.new) }
+    ensures faults { CountedRead (H.state host.old).read_faults (H.state host.new).read_faults result }
+    ensures cause { (H.state host.old).willing → IfRead result ((H.state host.old).told.is_open ≡ Some false) }
 {
     let left = head.size as usize - front.len();
     match payload_front(front, left) {
@@ -254,16 +234,13 @@ fn payload<H: Host>(
     requires end { head.body_at + head.size ≤ 536870912 }
     requires known { is_known head.kind ≡ true }
     ensures bytes { (front : List ℕ) → length front + left ≡ head.size → ShowsPayload left front start.now →
-        OfRest (H.told host.old) (λ rest. AnswersBlob result (bodied head (front ++ rest))) }
-    ensures moved { IfOk result (λ blob. H.told host.new ≡ moved left (H.told host.old)) }
+        OfRest (H.state host.old).told (λ rest. AnswersBlob result (bodied head (front ++ rest))) }
+    ensures moved { IfOk result (λ blob. (H.state host.new).told ≡ moved left (H.state host.old).told) }
     ensures end { IfOk result (λ blob. blob.end ≡ head.body_at + head.size) }
     ensures raw { IfOk result (λ blob. blob.raw_at + length blob.raw < 2 ^ 64) }
-    ensures others { OnlyMoved (H.told host.old) (H.told host.new) }
-    ensures reads { CountedRead (H.read_faults host.old) (H.read_faults host.new) result }
-    ensures puts { H.put_faults host.new ≡ H.put_faults host.old }
-    ensures says { H.say_faults host.new ≡ H.say_faults host.old }
-    ensures willing { H.willing host.old → H.willing host.new }
-    ensures cause { H.willing host.old → IfRead result ((H.told host.old).is_open ≡ Some false) }
+    ensures frame { OnlyReads (H.state host.old) (H.state host.new) }
+    ensures faults { CountedRead (H.state host.old).read_faults (H.state host.new).read_faults result }
+    ensures cause { (H.state host.old).willing → IfRead result ((H.state host.old).told.is_open ≡ Some false) }
 {
     let raw = read_behind(alloc, host, start, left)?;
     if raw.len() < start.len() + left {
@@ -293,16 +270,13 @@ fn walked_blob<H: Host>(
     requires size_limit { head.size ≤ 33554496 }
     requires end { head.body_at + head.size ≤ 536870912 }
     requires known { is_known head.kind ≡ true }
-    ensures bytes { OfRest (H.told host.old) (λ rest. AnswersBlob result (bodied head (front.now ++ rest))) }
-    ensures moved { IfOk result (λ blob. H.told host.new ≡ moved left (H.told host.old)) }
+    ensures bytes { OfRest (H.state host.old).told (λ rest. AnswersBlob result (bodied head (front.now ++ rest))) }
+    ensures moved { IfOk result (λ blob. (H.state host.new).told ≡ moved left (H.state host.old).told) }
     ensures end { IfOk result (λ blob. blob.end ≡ head.body_at + head.size) }
     ensures raw { IfOk result (λ blob. blob.raw_at + length blob.raw < 2 ^ 64) }
-    ensures others { OnlyMoved (H.told host.old) (H.told host.new) }
-    ensures reads { CountedRead (H.read_faults host.old) (H.read_faults host.new) result }
-    ensures puts { H.put_faults host.new ≡ H.put_faults host.old }
-    ensures says { H.say_faults host.new ≡ H.say_faults host.old }
-    ensures willing { H.willing host.old → H.willing host.new }
-    ensures cause { H.willing host.old → IfRead result ((H.told host.old).is_open ≡ Some false) }
+    ensures frame { OnlyReads (H.state host.old) (H.state host.new) }
+    ensures faults { CountedRead (H.state host.old).read_faults (H.state host.new).read_faults result }
+    ensures cause { (H.state host.old).willing → IfRead result ((H.state host.old).told.is_open ≡ Some false) }
 {
     let body = read_behind(alloc, host, front, left)?;
     if body.len() < front.len() + left {

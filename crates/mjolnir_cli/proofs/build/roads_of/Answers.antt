@@ -8,7 +8,7 @@ use Rattle.mjolnir_cli.proofs.build.roads_of.Goals as goal
 
 pub returns-in-Ok-clause-roads : goal.returns-in-Ok-clause-roads
 returns-in-Ok-clause-roads g c =
-    let told = g.H.Host.told c.args.host.now in
+    let told = (g.H.Host.state c.args.host.now).told in
     let answer = c.built_roads.result in
     for_all answer (λ roads bytes. IsCut bytes roads.junctions roads.pieces) (λ bytes. told.input ≡ Some bytes) (λ bytes. told.place ≡ Some 0)
     (λ bytes input place. if_cut bytes c.in-Ok.extract answer c.built_roads.ensures.junctions c.built_roads.ensures.pieces c.built_roads.ensures.built c.built_roads.ensures.within (c.in-Ok.ensures.bytes bytes input place))
@@ -18,7 +18,7 @@ returns-in-Ok-clause-placed g c = if_placed c.in-Ok.extract c.built_roads.result
 
 pub returns-in-Ok-clause-refused : goal.returns-in-Ok-clause-refused
 returns-in-Ok-clause-refused g c =
-    let told = g.H.Host.told c.args.host.now in
+    let told = (g.H.Host.state c.args.host.now).told in
     let answer = c.built_roads.result in
     for_all_err answer (λ failure bytes. IfOfInput (cause_of failure) (IsBuildRefused bytes failure)) (λ bytes. told.input ≡ Some bytes) (λ bytes. told.place ≡ Some 0)
     (λ bytes input place. if_refused bytes c.in-Ok.extract answer c.built_roads.ensures.refused (c.in-Ok.ensures.bytes bytes input place))
@@ -30,8 +30,8 @@ returns-in-Err-clause-refused g c = λ bytes input place.
 pub returns-in-Err-clause-met : goal.returns-in-Err-clause-met
 returns-in-Err-clause-met g c = rw c.from.ensures (met c.in-Err.fault)
 
-pub returns-in-Err-clause-reads : goal.returns-in-Err-clause-reads
-returns-in-Err-clause-reads g c = rw c.from.ensures (counted _ _ c.in-Err.fault c.in-Err.ensures.reads)
+pub returns-in-Err-clause-faults : goal.returns-in-Err-clause-faults
+returns-in-Err-clause-faults g c = rw c.from.ensures (counted _ _ c.in-Err.fault c.in-Err.ensures.faults)
 
 pub returns-in-Err-clause-cause : goal.returns-in-Err-clause-cause
-returns-in-Err-clause-cause g c = λ willing. rw c.from.ensures (if_read ((g.H.Host.told c.args.host.now).is_open ≡ Some false) c.in-Err.fault (c.in-Err.ensures.cause willing))
+returns-in-Err-clause-cause g c = λ willing. rw c.from.ensures (if_read ((g.H.Host.state c.args.host.now).told.is_open ≡ Some false) c.in-Err.fault (c.in-Err.ensures.cause willing))

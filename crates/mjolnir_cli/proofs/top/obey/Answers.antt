@@ -1,19 +1,17 @@
 -- A command ends by what its run, its delivery and the line of its failure promise.
-use Rattle.mjolnir_cli.proofs.HowItEnds.{seen, delivered_end, failed_end}
+use Rattle.mjolnir_cli.proofs.HowItEnds.{delivered_end, failed_end}
 use Rattle.mjolnir_cli.proofs.top.obey.Goals as goal
 
 pub returns-in-Ok-clause-end : goal.returns-in-Ok-clause-end
 returns-in-Ok-clause-end g c =
-    delivered_end c.one_end.ensures c.list_agrees.ensures c.args.command.now c.in-Ok.answer c.deliver.result (seen (g.H.Host.told c.args.host.now) (g.H.Host.read_faults c.args.host.now) (g.H.Host.put_faults c.args.host.now) (g.H.Host.say_faults c.args.host.now) (g.H.Host.willing c.args.host.now)) (seen (g.H.Host.told c.run.new.host) (g.H.Host.read_faults c.run.new.host) (g.H.Host.put_faults c.run.new.host) (g.H.Host.say_faults c.run.new.host) (g.H.Host.willing c.run.new.host)) (seen (g.H.Host.told c.deliver.new.host) (g.H.Host.read_faults c.deliver.new.host) (g.H.Host.put_faults c.deliver.new.host) (g.H.Host.say_faults c.deliver.new.host) (g.H.Host.willing c.deliver.new.host))
+    delivered_end c.one_end.ensures c.list_agrees.ensures c.args.command.now c.in-Ok.answer c.deliver.result (g.H.Host.state c.args.host.now) (g.H.Host.state c.run.new.host) (g.H.Host.state c.deliver.new.host)
     (record {
       is_answer = c.in-Ok.ensures.answered;
       carries = c.in-Ok.ensures.told;
       paths_are = c.in-Ok.ensures.paths;
       whole = c.in-Ok.ensures.whole;
-      others = c.in-Ok.ensures.others;
-      reads = c.in-Ok.ensures.reads;
-      puts = c.in-Ok.ensures.puts;
-      says = c.in-Ok.ensures.says;
+      others = c.in-Ok.ensures.frame;
+      reads = c.in-Ok.ensures.faults;
     })
     (record {
       statuses = c.deliver.ensures.statuses;
@@ -34,18 +32,16 @@ returns-in-Ok-clause-end g c =
       reads = c.deliver.ensures.reads;
       none = c.deliver.ensures.none;
     })
-    (λ willing. c.deliver.ensures.willing_puts (c.in-Ok.ensures.willing willing)) (λ willing. c.deliver.ensures.willing_says (c.in-Ok.ensures.willing willing))
+    (λ willing. c.deliver.ensures.willing_puts (c.in-Ok.ensures.frame.willing willing)) (λ willing. c.deliver.ensures.willing_says (c.in-Ok.ensures.frame.willing willing))
 
 pub returns-in-Err-clause-end : goal.returns-in-Err-clause-end
 returns-in-Err-clause-end g c =
-    failed_end c.one_end.ensures c.args.command.now c.in-Err.failure c.say_failure.result (seen (g.H.Host.told c.args.host.now) (g.H.Host.read_faults c.args.host.now) (g.H.Host.put_faults c.args.host.now) (g.H.Host.say_faults c.args.host.now) (g.H.Host.willing c.args.host.now)) (seen (g.H.Host.told c.run.new.host) (g.H.Host.read_faults c.run.new.host) (g.H.Host.put_faults c.run.new.host) (g.H.Host.say_faults c.run.new.host) (g.H.Host.willing c.run.new.host)) (seen (g.H.Host.told c.say_failure.new.host) (g.H.Host.read_faults c.say_failure.new.host) (g.H.Host.put_faults c.say_failure.new.host) (g.H.Host.say_faults c.say_failure.new.host) (g.H.Host.willing c.say_failure.new.host))
+    failed_end c.one_end.ensures c.args.command.now c.in-Err.failure c.say_failure.result (g.H.Host.state c.args.host.now) (g.H.Host.state c.run.new.host) (g.H.Host.state c.say_failure.new.host)
     (record {
       refused = c.in-Err.ensures.refused;
       met = c.in-Err.ensures.met;
-      others = c.in-Err.ensures.others;
-      reads = c.in-Err.ensures.reads;
-      puts = c.in-Err.ensures.puts;
-      says = c.in-Err.ensures.says;
+      others = c.in-Err.ensures.frame;
+      reads = c.in-Err.ensures.faults;
     })
-    (record { statuses = c.say_failure.ensures.status; line = c.say_failure.ensures.line; memory = c.say_failure.ensures.memory; files = c.say_failure.ensures.others.files; put_paths = c.say_failure.ensures.others.puts; reads = c.say_failure.ensures.reads; puts = c.say_failure.ensures.puts })
-    c.in-Err.ensures.cause (λ willing. c.say_failure.ensures.willing (c.in-Err.ensures.willing willing))
+    (record { statuses = c.say_failure.ensures.status; line = c.say_failure.ensures.line; memory = c.say_failure.ensures.memory; files = c.say_failure.ensures.frame.files; put_paths = c.say_failure.ensures.frame.puts; reads = c.say_failure.ensures.frame.read_faults; puts = c.say_failure.ensures.frame.put_faults })
+    c.in-Err.ensures.cause (λ willing. c.say_failure.ensures.willing (c.in-Err.ensures.frame.willing willing))

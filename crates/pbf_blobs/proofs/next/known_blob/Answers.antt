@@ -20,4 +20,4 @@ returns-clause-bytes g c =
     let whole : c.in_ok-count.count ≡ c.min-room.result = omega (arith, size, c.in_ok-count.ensures.most, c.if-count-room.false) in
     let same = front-joined c.in_ok-count.count c.min-room.result place c.read_full.new.buf _ input size whole (c.in_ok-count.ensures.bytes input place told at) in
     subst (λ (xs : List ℕ). AnswersBlob c.after_front.result (bodied c.args.head xs)) same
-    (c.after_front.ensures.bytes input (place + c.in_ok-count.count) (c.read_full.ensures.others.input ∙ told) (place-moved _ _ c.in_ok-count.count place c.in_ok-count.ensures.moved at))
+    (c.after_front.ensures.bytes input (place + c.in_ok-count.count) (c.read_full.ensures.frame.input ∙ told) (place-moved _ _ c.in_ok-count.count place c.in_ok-count.ensures.moved at))

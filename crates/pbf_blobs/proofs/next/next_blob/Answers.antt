@@ -40,7 +40,7 @@ returns-in-Ok-clause-bytes g c =
     let four : c.in_ok-count.count ≡ 4 = omega (arith, size, c.in_ok-count.ensures.most, c.if-count-lt4.false) in
     let filled = c.in_ok-count.ensures.bytes input c.args.at told at in
     next_of-framed c.args.at c.args.at c.in_ok-count.count c.from_be_bytes-length.result buf input size four filled c.from_be_bytes-length.ensures c.if-length-ge-HEADER_LIMIT.false
-    ∙ c.in-Ok.ensures.bytes input (c.args.at + c.in_ok-count.count) (c.read_full.ensures.others.input ∙ told) (place-moved _ _ c.in_ok-count.count c.args.at c.in_ok-count.ensures.moved at)
+    ∙ c.in-Ok.ensures.bytes input (c.args.at + c.in_ok-count.count) (c.read_full.ensures.frame.input ∙ told) (place-moved _ _ c.in_ok-count.count c.args.at c.in_ok-count.ensures.moved at)
 
 pub returns-in-Err-clause-bytes : goal.returns-in-Err-clause-bytes
 returns-in-Err-clause-bytes g c =
@@ -50,7 +50,7 @@ returns-in-Err-clause-bytes g c =
     let four : c.in_ok-count.count ≡ 4 = omega (arith, size, c.in_ok-count.ensures.most, c.if-count-lt4.false) in
     let filled = c.in_ok-count.ensures.bytes input c.args.at told at in
     subst (λ (o : Outcome). AnswersFault c.in-Err.fault o) (sym (next_of-framed c.args.at c.args.at c.in_ok-count.count c.from_be_bytes-length.result buf input size four filled c.from_be_bytes-length.ensures c.if-length-ge-HEADER_LIMIT.false))
-    (c.in-Err.ensures.bytes input (c.args.at + c.in_ok-count.count) (c.read_full.ensures.others.input ∙ told) (place-moved _ _ c.in_ok-count.count c.args.at c.in_ok-count.ensures.moved at))
+    (c.in-Err.ensures.bytes input (c.args.at + c.in_ok-count.count) (c.read_full.ensures.frame.input ∙ told) (place-moved _ _ c.in_ok-count.count c.args.at c.in_ok-count.ensures.moved at))
 
 pub returns-then-count-eq0-clause-within : goal.returns-then-count-eq0-clause-within
 returns-then-count-eq0-clause-within g c =
