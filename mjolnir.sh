@@ -5,21 +5,10 @@ set -u
 top=$(cd "$(dirname "$0")" && pwd) || exit 1
 program=$top/crates/mjolnir/out/mjolnir
 
+# What the program says of its commands, out of the source: the text between COMMANDS_USAGE and the line `";`.
 usage() {
-    cat <<'USAGE'
-mjolnir: the offline tile builder of a road router, as verified software
-
-usage: ./mjolnir.sh COMMAND ...
-
-  blobs PATH                        a line for each blob of the extract: place, type, size in bytes
-                                      ./mjolnir.sh blobs city.osm.pbf
-  build --input PATH --output DIR   the list of the residential roads of the extract, as DIR/plain.lst
-                                      ./mjolnir.sh build --input city.osm.pbf --output out/city
-  --help, --version                 this text; the version
-
-An extract has to be written without compression (README.md, "Extracts"). The program ends with a status that README.md
-lists; what isn't done is said in one line that begins with `error`.
-USAGE
+    sed -n '/^pub const COMMANDS_USAGE/,/^";$/p' "$top/crates/command_words/src/usages.rt" |
+        sed -e '1d' -e '$d' -e 's/^    "//'
 }
 
 # The commit of the checkout and its day, and the kit that the proofs were made with.
@@ -47,12 +36,15 @@ case "${1:-}" in
         version
         exit 0
         ;;
-    "")
-        usage >&2
-        ;;
 esac
 
 if ! is_built; then
+    # Without words there is nothing to build for: the program would say this, and refuse them.
+    if [ $# -eq 0 ]; then
+        usage >&2
+        echo "error 2 words"
+        exit 2
+    fi
     if ! command -v rt >/dev/null 2>&1; then
         echo "mjolnir.sh: the command rt of the Rattle kit isn't on the PATH (README.md, \"Requirements\")" >&2
         exit 1

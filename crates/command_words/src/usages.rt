@@ -23,13 +23,13 @@ Says a line for each blob of the extract: its place, its type, its size in bytes
 pub const BUILD_USAGE: &str =
     "usage: mjolnir build --input PATH --output DIR [--workers W] [--modes LIST]
 
-Builds the tiles of the extract into the folder, and says the report.
+Puts the list of the extract's roads into the folder, as DIR/plain.lst. The tiles come later.
 
   --input PATH    the extract, in the PBF format, written without compression
   --output DIR    the folder; it is made where it isn't there
-  --workers W     1 to 64 workers (1)
-  --modes LIST    the modes to build for, with commas between them
-                  (auto,pedestrian,bicycle,truck,bus)
+  --workers W     1 to 64 workers (1); the list is the same with each
+  --modes LIST    modes, with commas between them (auto,pedestrian,bicycle,truck,bus);
+                  the list has the roads of all, whichever are named
 
   mjolnir build --input city.osm.pbf --output out/city
 ";
@@ -37,7 +37,8 @@ Builds the tiles of the extract into the folder, and says the report.
 /// How `demo` is typed.
 pub const DEMO_USAGE: &str = "usage: mjolnir demo N SEED [--workers W]
 
-Makes the extract of a grid of roads with drawn turn restrictions, builds its tiles in memory, and says the report.
+Isn't done yet: these words are refused. It is to make the extract of a grid of roads with drawn turn restrictions,
+and to build it in memory.
 
   N               rows and columns, 2 to 500
   SEED            what the draws begin with, 0 to 2147483647
@@ -46,15 +47,27 @@ Makes the extract of a grid of roads with drawn turn restrictions, builds its ti
   mjolnir demo 100 1
 ";
 
-/// All commands.
+/// All commands. `mjolnir.sh --help` prints it out of this file.
 pub const COMMANDS_USAGE: &str =
     "mjolnir: the offline tile builder of a road router, as verified software
 
-  mjolnir blobs PATH
-  mjolnir build --input PATH --output DIR [--workers W] [--modes LIST]
-  mjolnir demo N SEED [--workers W]
+usage: mjolnir COMMAND ...
 
-  mjolnir COMMAND --help says more of a command
+  blobs PATH
+      says a line for each blob of the extract: its place, its type, its size in bytes
+      mjolnir blobs city.osm.pbf
+
+  build --input PATH --output DIR [--workers W] [--modes LIST]
+      puts the list of the extract's roads into the folder, as DIR/plain.lst
+      W is 1 to 64 (1), LIST some of auto,pedestrian,bicycle,truck,bus (all); neither changes the list
+      mjolnir build --input city.osm.pbf --output out/city
+
+  COMMAND --help says more of a command
+
+An extract has to be written without compression. The program ends with a status that README.md lists; what isn't
+done is said in one line that begins with `error`.
+
+There is no release yet: a version is a commit, which `mjolnir.sh --version` names.
 ";
 
 /// The usage of the command that the first word names, or of all commands where it names none.

@@ -74,7 +74,7 @@ framed_reads pbf.OutOfMemory = refl
 framed_reads (pbf.MissingField at number) = refl
 framed_reads (pbf.BadType at) = refl
 
-framed_bytes : (fault : PbfFault) → is_of_bytes (framed_as fault) ≡ pbf_is_of_bytes fault
+pub framed_bytes : (fault : PbfFault) → is_of_bytes (framed_as fault) ≡ pbf_is_of_bytes fault
 framed_bytes pbf.Read = refl
 framed_bytes (pbf.Truncated at) = refl
 framed_bytes (pbf.HeaderTooLong at len) = refl

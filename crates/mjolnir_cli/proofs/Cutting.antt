@@ -17,12 +17,10 @@ use Rattle.road_pieces.specs.ListWalks.{listed}
 use Rattle.road_pieces.specs.Rows.{junction_row, junction_rows, piece_rows, refusal}
 use Rattle.mjolnir_cli.specs.declared.failure.Failure.{Failure}
 use Rattle.mjolnir_cli.specs.Failures.{cause_of, of_cut}
-use Rattle.mjolnir_cli.specs.Answers.{Spells, IsCut, IsBuilt, IsBuildRefused, IsOfExtract}
+use Rattle.mjolnir_cli.specs.Commands.BuildCommand.{Spells, IsCut, IsBuilt, IsBuildRefused, IsOfExtract, list_path, TellsPieces}
 use Rattle.mjolnir_cli.specs.declared.answer.Answer.{Answer}
-use Rattle.mjolnir_cli.specs.Words.{list_path}
 use Rattle.mjolnir_cli.specs.PlainList.{list_of, plain_list}
 use Rattle.mjolnir_cli.specs.ListReading.{pieces_told}
-use Rattle.mjolnir_cli.specs.RoadLists.{TellsPieces}
 use Rattle.mjolnir_cli.specs.Listing.{IfOfInput}
 use Rattle.mjolnir_cli.specs.Unbuilt.{unbuilt}
 

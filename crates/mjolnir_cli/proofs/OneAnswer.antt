@@ -8,17 +8,17 @@ use Rattle.mjolnir_cli.specs.declared.answer.Answer.{Answer}
 use Rattle.mjolnir_cli.specs.declared.failure.Failure.{Failure}
 use Rattle.mjolnir_cli.specs.declared.failure.Failure.TheVariants as failures
 use Rattle.mjolnir_cli.specs.declared.failure.Failure.TheVariants.{Words, Read, Put, NotBuilt, Pieces, EdgeTooLong, OutOfMemory}
-use Rattle.mjolnir_cli.specs.Words.{Request, input_of}
+use Rattle.mjolnir_cli.specs.declared.words.Command.{Command}
+use Rattle.mjolnir_cli.specs.Commands.{input_of, IsAnswer, IsRefused, EndsSo, Asks}
 use Rattle.mjolnir_cli.specs.Failures.{Cause, OfWords, OfReading, OfPutting, OfBytes, OfLimits, OfMemory, cause_of, status_for, status_of, line_of}
-use Rattle.mjolnir_cli.specs.Answers.{IsAnswer, IsRefused, EndsSo}
 use Rattle.mjolnir_cli.specs.Listing.{IfOfInput, IsMet, ReadCount}
-use Rattle.mjolnir_cli.specs.Said.{Asks, SaysLine}
+use Rattle.mjolnir_cli.specs.Said.{SaysLine}
 
--- ---- each request
+-- ---- each command
 
--- each request has one end for an input of these bytes
+-- each command has one end for an input of these bytes
 abbrev pub EndsOneWay : Type 0
-EndsOneWay = (request : Request) (bytes : List ℕ) (one other : Result Answer Failure) → EndsSo request bytes one → EndsSo request bytes other → one ≡ other
+EndsOneWay = (command : Command) (bytes : List ℕ) (one other : Result Answer Failure) → EndsSo command bytes one → EndsSo command bytes other → one ≡ other
 
 ok_err : (answer : Answer) (failure : Failure) → ◌≡◌ {A = Result Answer Failure} (Ok answer) (Err failure) → ⊥
 ok_err answer failure e = cc
@@ -27,31 +27,31 @@ failure_is : (f g : Failure) → ◌≡◌ {A = Result Answer Failure} (Err f) (
 failure_is f g e = cc
 
 -- an input that is answered isn't refused
-not_both : EndsOneWay → (request : Request) (bytes : List ℕ) (answer : Answer) (failure : Failure) → IsAnswer request bytes answer → IsRefused request bytes failure → ⊥
-not_both way request bytes answer failure answered refused = ok_err answer failure (way request bytes (Ok answer) (Err failure) answered refused)
+not_both : EndsOneWay → (command : Command) (bytes : List ℕ) (answer : Answer) (failure : Failure) → IsAnswer command bytes answer → IsRefused command bytes failure → ⊥
+not_both way command bytes answer failure answered refused = ok_err answer failure (way command bytes (Ok answer) (Err failure) answered refused)
 
 -- an input is refused with one status
-same_status : EndsOneWay → (request : Request) (bytes : List ℕ) (f g : Failure) → IsRefused request bytes f → IsRefused request bytes g → status_of f ≡ status_of g
-same_status way request bytes f g one two = ap status_of (failure_is f g (way request bytes (Err f) (Err g) one two))
+same_status : EndsOneWay → (command : Command) (bytes : List ℕ) (f g : Failure) → IsRefused command bytes f → IsRefused command bytes g → status_of f ≡ status_of g
+same_status way command bytes f g one two = ap status_of (failure_is f g (way command bytes (Err f) (Err g) one two))
 
--- ---- the request that is run
+-- ---- the command that is run
 
--- the request that is run is the one that the words ask for
-pub same_request : (asked : Option Request) (told : Told) (mine request : Request) (bytes : List ℕ) → asked ≡ Some mine → Asks asked told request bytes → request ≡ mine
-same_request asked told mine request bytes is asks = same_Some request mine (sym asks.request_is ∙ is)
+-- the command that is run is the one that the words ask for
+pub same_command : (asked : Option Command) (told : Told) (mine command : Command) (bytes : List ℕ) → asked ≡ Some mine → Asks asked told command bytes → command ≡ mine
+same_command asked told mine command bytes is asks = same_Some command mine (sym asks.command_is ∙ is)
 
--- what holds of the request that is run holds of the one that is asked for
-pub of_asked : (P : Request → List ℕ → Type 0) (asked : Option Request) (told : Told) (mine request : Request) (bytes : List ℕ) → asked ≡ Some mine
-    → ((bytes : List ℕ) → named (input_of mine) told ≡ Some bytes → P mine bytes) → Asks asked told request bytes → P request bytes
-of_asked P asked told mine request bytes is holds asks =
-    let same = same_request asked told mine request bytes is asks in
-    subst (λ (r : Request). P r bytes) (sym same) (holds bytes (subst (λ (r : Request). named (input_of r) told ≡ Some bytes) same asks.bytes_are))
+-- what holds of the command that is run holds of the one that is asked for
+pub of_asked : (P : Command → List ℕ → Type 0) (asked : Option Command) (told : Told) (mine command : Command) (bytes : List ℕ) → asked ≡ Some mine
+    → ((bytes : List ℕ) → named (input_of mine) told ≡ Some bytes → P mine bytes) → Asks asked told command bytes → P command bytes
+of_asked P asked told mine command bytes is holds asks =
+    let same = same_command asked told mine command bytes is asks in
+    subst (λ (r : Command). P r bytes) (sym same) (holds bytes (subst (λ (r : Command). named (input_of r) told ≡ Some bytes) same asks.bytes_are))
 
--- a request that has an answer isn't refused
-pub answered : EndsOneWay → (asked : Option Request) (told : Told) (mine request : Request) (bytes : List ℕ) (answer : Answer) (failure : Failure) → asked ≡ Some mine
-    → ((bytes : List ℕ) → named (input_of mine) told ≡ Some bytes → IsAnswer mine bytes answer) → Asks asked told request bytes → IsRefused request bytes failure → ⊥
-answered way asked told mine request bytes answer failure is answers asks refused =
-    not_both way request bytes answer failure (of_asked (λ r bs. IsAnswer r bs answer) asked told mine request bytes is answers asks) refused
+-- a command that has an answer isn't refused
+pub answered : EndsOneWay → (asked : Option Command) (told : Told) (mine command : Command) (bytes : List ℕ) (answer : Answer) (failure : Failure) → asked ≡ Some mine
+    → ((bytes : List ℕ) → named (input_of mine) told ≡ Some bytes → IsAnswer mine bytes answer) → Asks asked told command bytes → IsRefused command bytes failure → ⊥
+answered way asked told mine command bytes answer failure is answers asks refused =
+    not_both way command bytes answer failure (of_asked (λ r bs. IsAnswer r bs answer) asked told mine command bytes is answers asks) refused
 
 -- ---- by the cause of a failure
 
@@ -85,52 +85,8 @@ this_status OfLimits other before now status met same counted unread (inr is) = 
 this_status OfMemory other before now status met same counted unread (inl is) = inr is
 this_status OfMemory other before now status met same counted unread (inr is) = inr is
 
--- With the status of bytes or limits that are refused, the failure is one of the input.
-of_input : (cause : Cause) (A : Type 0) (status : ℕ) → (status ≡ 5) ⊎ (status ≡ 6) → (status ≡ status_for cause) ⊎ (status ≡ 7) → IfOfInput cause A → A
-of_input OfWords A status (inl s) (inl is) given = absurd (omega arith)
-of_input OfWords A status (inr s) (inl is) given = absurd (omega arith)
-of_input OfWords A status (inl s) (inr is) given = absurd (omega arith)
-of_input OfWords A status (inr s) (inr is) given = absurd (omega arith)
-of_input OfReading A status (inl s) (inl is) given = absurd (omega arith)
-of_input OfReading A status (inr s) (inl is) given = absurd (omega arith)
-of_input OfReading A status (inl s) (inr is) given = absurd (omega arith)
-of_input OfReading A status (inr s) (inr is) given = absurd (omega arith)
-of_input OfPutting A status (inl s) (inl is) given = absurd (omega arith)
-of_input OfPutting A status (inr s) (inl is) given = absurd (omega arith)
-of_input OfPutting A status (inl s) (inr is) given = absurd (omega arith)
-of_input OfPutting A status (inr s) (inr is) given = absurd (omega arith)
-of_input OfBytes A status s is given = given
-of_input OfLimits A status s is given = given
-of_input OfMemory A status (inl s) (inl is) given = absurd (omega arith)
-of_input OfMemory A status (inr s) (inl is) given = absurd (omega arith)
-of_input OfMemory A status (inl s) (inr is) given = absurd (omega arith)
-of_input OfMemory A status (inr s) (inr is) given = absurd (omega arith)
-
-not_seven : (status : ℕ) → (status ≡ 5) ⊎ (status ≡ 6) → status ≡ 7 → ⊥
-not_seven status (inl s) seven = omega arith
-not_seven status (inr s) seven = omega arith
-
--- which is then its status
-its_status : (status expected : ℕ) → (status ≡ 5) ⊎ (status ≡ 6) → (status ≡ expected) ⊎ (status ≡ 7) → expected ≡ status
-its_status status expected which (inl is) = sym is
-its_status status expected which (inr seven) = absurd (not_seven status which seven)
-
--- the status 3 is that of a fault of reading
-of_reading : (cause : Cause) (status : ℕ) → (status ≡ status_for cause) ⊎ (status ≡ 7) → status ≡ 3 → cause ≡ OfReading
-of_reading OfReading status is three = refl
-of_reading OfWords status (inl is) three = absurd (omega arith)
-of_reading OfWords status (inr is) three = absurd (omega arith)
-of_reading OfPutting status (inl is) three = absurd (omega arith)
-of_reading OfPutting status (inr is) three = absurd (omega arith)
-of_reading OfBytes status (inl is) three = absurd (omega arith)
-of_reading OfBytes status (inr is) three = absurd (omega arith)
-of_reading OfLimits status (inl is) three = absurd (omega arith)
-of_reading OfLimits status (inr is) three = absurd (omega arith)
-of_reading OfMemory status (inl is) three = absurd (omega arith)
-of_reading OfMemory status (inr is) three = absurd (omega arith)
-
 -- there is one failure of reading
-is_read : (failure : Failure) → cause_of failure ≡ OfReading → failure ≡ Read
+pub is_read : (failure : Failure) → cause_of failure ≡ OfReading → failure ≡ Read
 is_read Read is = refl
 is_read Words is = absurd cc
 is_read Put is = absurd cc
@@ -140,46 +96,27 @@ is_read (Pieces count) is = absurd cc
 is_read (EdgeTooLong way run piece cm) is = absurd cc
 is_read OutOfMemory is = absurd cc
 
--- ---- at the end of a request that isn't done
+-- ---- at the end of a command that isn't done
 
--- a request that has an answer is done, or there was no memory, where no fault of reading was counted
-pub complete : EndsOneWay → (asked : Option Request) (told : Told) (mine request : Request) (bytes : List ℕ) (answer : Answer) (failure : Failure) (before now later status : ℕ) → asked ≡ Some mine → IsMet (cause_of failure)
+-- a command that has an answer is done, or there was no memory, where no fault of reading was counted
+pub complete : EndsOneWay → (asked : Option Command) (told : Told) (mine command : Command) (bytes : List ℕ) (answer : Answer) (failure : Failure) (before now later status : ℕ) → asked ≡ Some mine → IsMet (cause_of failure)
     → ((bytes : List ℕ) → named (input_of mine) told ≡ Some bytes → IfOfInput (cause_of failure) (IsRefused mine bytes failure)) → ReadCount before now (cause_of failure) → later ≡ now → (Rose before later → ⊥)
-    → Asks asked told request bytes → IsAnswer request bytes answer → (status ≡ status_of failure) ⊎ (status ≡ 7) → status ≡ 7
-complete way asked told mine request bytes answer failure before now later status is met refused counted stays unread asks answer_is ends =
+    → Asks asked told command bytes → IsAnswer command bytes answer → (status ≡ status_of failure) ⊎ (status ≡ 7) → status ≡ 7
+complete way asked told mine command bytes answer failure before now later status is met refused counted stays unread asks answer_is ends =
     only_memory (cause_of failure) before now status met
-    (if_of_input (cause_of failure) (not_both way request bytes answer failure answer_is) (of_asked (λ r bs. IfOfInput (cause_of failure) (IsRefused r bs failure)) asked told mine request bytes is refused asks))
+    (if_of_input (cause_of failure) (not_both way command bytes answer failure answer_is) (of_asked (λ r bs. IfOfInput (cause_of failure) (IsRefused r bs failure)) asked told mine command bytes is refused asks))
     counted (λ rose. unread (subst (λ (n : ℕ). Rose before n) (sym stays) rose)) ends
 
--- a request whose input is refused is refused with that status, or there was no memory
-pub refused_so : EndsOneWay → (asked : Option Request) (told : Told) (mine request : Request) (bytes : List ℕ) (failure other : Failure) (before now later status : ℕ) → asked ≡ Some mine → IsMet (cause_of failure)
+-- a command whose input is refused is refused with that status, or there was no memory
+pub refused_so : EndsOneWay → (asked : Option Command) (told : Told) (mine command : Command) (bytes : List ℕ) (failure other : Failure) (before now later status : ℕ) → asked ≡ Some mine → IsMet (cause_of failure)
     → ((bytes : List ℕ) → named (input_of mine) told ≡ Some bytes → IfOfInput (cause_of failure) (IsRefused mine bytes failure)) → ReadCount before now (cause_of failure) → later ≡ now → (Rose before later → ⊥)
-    → Asks asked told request bytes → IsRefused request bytes other → (status ≡ status_of failure) ⊎ (status ≡ 7) → (status ≡ status_of other) ⊎ (status ≡ 7)
-refused_so way asked told mine request bytes failure other before now later status is met refused counted stays unread asks other_is ends =
+    → Asks asked told command bytes → IsRefused command bytes other → (status ≡ status_of failure) ⊎ (status ≡ 7) → (status ≡ status_of other) ⊎ (status ≡ 7)
+refused_so way asked told mine command bytes failure other before now later status is met refused counted stays unread asks other_is ends =
     this_status (cause_of failure) (cause_of other) before now status met
-    (if_of_input (cause_of failure) (λ mine_is. same_status way request bytes failure other mine_is other_is) (of_asked (λ r bs. IfOfInput (cause_of failure) (IsRefused r bs failure)) asked told mine request bytes is refused asks))
+    (if_of_input (cause_of failure) (λ mine_is. same_status way command bytes failure other mine_is other_is) (of_asked (λ r bs. IfOfInput (cause_of failure) (IsRefused r bs failure)) asked told mine command bytes is refused asks))
     counted (λ rose. unread (subst (λ (n : ℕ). Rose before n) (sym stays) rose)) ends
 
 -- a line that is said after a call which says nothing is said from the start
 pub says_from : (line : List ℕ) (start old new : Told) (first before now : ℕ) → old.said ≡ start.said → before ≡ first → SaysLine line old new before now → SaysLine line start new first now
 says_from line start old new first before now same counted (inl adds) = inl (adds ∙ ap (option_map (λ said. said ++ line)) same)
 says_from line start old new first before now same counted (inr lost) = inr (lost.0 ∙ same, subst (λ (n : ℕ). Rose n now) counted lost.1)
-
--- what is answered with the status 5 or 6 is a refusal, with its line
-pub ends_refused : (asked : Option Request) (told : Told) (mine : Request) (failure : Failure) (status : ℕ) (old new : Told) (first before now : ℕ) → asked ≡ Some mine
-    → ((bytes : List ℕ) → named (input_of mine) told ≡ Some bytes → IfOfInput (cause_of failure) (IsRefused mine bytes failure))
-    → (status ≡ status_of failure) ⊎ (status ≡ 7) → (status ≢ 7 → SaysLine (line_of failure) old new before now) → old.said ≡ told.said → before ≡ first
-    → (status ≡ 5) ⊎ (status ≡ 6)
-    → (refused : Failure) × (status_of refused ≡ status) × SaysLine (line_of refused) told new first now × ((request : Request) (bytes : List ℕ) → Asks asked told request bytes → IsRefused request bytes refused)
-ends_refused asked told mine failure status old new first before now is refused ends line same counted which = (
-  failure,
-  its_status status (status_of failure) which ends,
-  says_from (line_of failure) told old new first before now same counted (line (not_seven status which)),
-  λ request bytes asks. of_input (cause_of failure) (IsRefused request bytes failure) status which ends (of_asked (λ r bs. IfOfInput (cause_of failure) (IsRefused r bs failure)) asked told mine request bytes is refused asks),
-)
-
--- with status 3 it is the line of a fault of reading
-pub line_of_read : (failure : Failure) (status : ℕ) (start old new : Told) (first before now : ℕ) → (status ≡ status_of failure) ⊎ (status ≡ 7) → (status ≢ 7 → SaysLine (line_of failure) old new before now) → old.said ≡ start.said → before ≡ first → status ≡ 3 → SaysLine (line_of Read) start new first now
-line_of_read failure status start old new first before now ends line same counted three =
-    says_from (line_of Read) start old new first before now same counted
-    (subst (λ (f : Failure). SaysLine (line_of f) old new before now) (is_read failure (of_reading (cause_of failure) status ends three)) (line (λ seven. omega arith)))

@@ -17,11 +17,15 @@ use Rattle.mjolnir_cli.specs.declared.answer.Answer.{Answer}
 use Rattle.mjolnir_cli.specs.declared.failure.Failure.{Failure}
 use Rattle.mjolnir_cli.specs.declared.failure.Failure.TheVariants as failures
 use Rattle.mjolnir_cli.specs.declared.failure.Failure.TheVariants.{Words, Read, Put, NotBuilt, Pieces, EdgeTooLong, OutOfMemory}
-use Rattle.mjolnir_cli.specs.Words.{Request, Blobs, Build, list_path}
+use Rattle.command_words.specs.declared.command.BuildOptions.{BuildOptions}
+use Rattle.mjolnir_cli.specs.declared.words.Command.{Command}
+use Rattle.mjolnir_cli.specs.declared.words.Command.TheVariants.{Blobs, Build}
+use Rattle.mjolnir_cli.specs.Commands.BuildCommand.{list_path, Spells}
 use Rattle.mjolnir_cli.specs.Failures.{of_cut}
 use Rattle.mjolnir_cli.specs.Unbuilt.{unbuilt, unbuilt_among}
 use Rattle.mjolnir_cli.specs.PlainList.{plain_list, list_of}
-use Rattle.mjolnir_cli.specs.Answers.{blob_lines, Spells, EndsSo}
+use Rattle.mjolnir_cli.specs.Commands.BlobsCommand.{blob_lines}
+use Rattle.mjolnir_cli.specs.Commands.{EndsSo}
 use Rattle.mjolnir_cli.proofs.SameRoads.{same_pieces, same_junctions}
 
 -- ---- what the bytes are, in one way
@@ -107,20 +111,20 @@ data BuildsSo (output bytes : List ℕ) (end : Result Answer Failure) : Type 0 w
   of_extract : (x : Extract) → Spells bytes x → end ≡ end_of output x → BuildsSo output bytes end
   of_fault : (fault : ExtractFault) → Refuses bytes fault → end ≡ Err (failures.Extract fault) → BuildsSo output bytes end
 
-builds_so : (input output bytes : List ℕ) (end : Result Answer Failure) → EndsSo (Build input output) bytes end → BuildsSo output bytes end
-builds_so input output bytes (Ok answer) is =
-    of_extract is.extract is.spelled (ap Ok (answer_is answer ((list_path output, plain_list is.extract) ∷ []) [] is.files is.silent) ∙ sym (end_is output is.extract None None is.built is.within))
-builds_so input output bytes (Err (failures.Extract fault)) is = of_fault fault is refl
-builds_so input output bytes (Err (NotBuilt kind id)) is =
-    of_extract is.extract is.spelled (sym (end_is output is.extract (Some (kind, id)) (refusal (piece_rows is.extract)) is.first refl))
-builds_so input output bytes (Err (Pieces count)) is =
-    of_extract is.extract is.spelled (sym (end_is output is.extract None (Some (cut_faults.TooManyPieces count)) is.built is.passed))
-builds_so input output bytes (Err (EdgeTooLong way run piece cm)) is =
-    of_extract is.extract is.spelled (sym (end_is output is.extract None (Some (cut_faults.EdgeTooLong way run piece cm)) is.built is.passed))
-builds_so input output bytes (Err Words) is = absurd is
-builds_so input output bytes (Err Read) is = absurd is
-builds_so input output bytes (Err Put) is = absurd is
-builds_so input output bytes (Err OutOfMemory) is = absurd is
+builds_so : (options : BuildOptions) (bytes : List ℕ) (end : Result Answer Failure) → EndsSo (Build options) bytes end → BuildsSo options.output bytes end
+builds_so options bytes (Ok answer) is =
+    of_extract is.extract is.spelled (ap Ok (answer_is answer ((list_path options.output, plain_list is.extract) ∷ []) [] is.files is.silent) ∙ sym (end_is options.output is.extract None None is.built is.within))
+builds_so options bytes (Err (failures.Extract fault)) is = of_fault fault is refl
+builds_so options bytes (Err (NotBuilt kind id)) is =
+    of_extract is.extract is.spelled (sym (end_is options.output is.extract (Some (kind, id)) (refusal (piece_rows is.extract)) is.first refl))
+builds_so options bytes (Err (Pieces count)) is =
+    of_extract is.extract is.spelled (sym (end_is options.output is.extract None (Some (cut_faults.TooManyPieces count)) is.built is.passed))
+builds_so options bytes (Err (EdgeTooLong way run piece cm)) is =
+    of_extract is.extract is.spelled (sym (end_is options.output is.extract None (Some (cut_faults.EdgeTooLong way run piece cm)) is.built is.passed))
+builds_so options bytes (Err Words) is = absurd is
+builds_so options bytes (Err Read) is = absurd is
+builds_so options bytes (Err Put) is = absurd is
+builds_so options bytes (Err OutOfMemory) is = absurd is
 
 lists_are : (a b : Objects) → Extracted a ≡ Extracted b → a ≡ b
 lists_are a b e = cc
@@ -138,8 +142,8 @@ built_once output bytes one other way (of_extract x a is) (of_fault fault b also
 built_once output bytes one other way (of_fault fault a is) (of_extract y b also) = absurd (extracted_refused (lists_of y) fault (way (Extracted (lists_of y)) (Refused fault) b a))
 built_once output bytes one other way (of_fault fault a is) (of_fault more b also) = is ∙ ap (λ f. Err (failures.Extract f)) (refused_is fault more (way (Refused fault) (Refused more) a b)) ∙ sym also
 
--- ---- each request
+-- ---- each command
 
-pub one_end : (request : Request) (bytes : List ℕ) → FramesOneWay bytes → ReadsOneWay bytes → (one other : Result Answer Failure) → EndsSo request bytes one → EndsSo request bytes other → one ≡ other
+pub one_end : (command : Command) (bytes : List ℕ) → FramesOneWay bytes → ReadsOneWay bytes → (one other : Result Answer Failure) → EndsSo command bytes one → EndsSo command bytes other → one ≡ other
 one_end (Blobs path) bytes frames reads one other so also = listed_once bytes one other frames (lists_so path bytes one so) (lists_so path bytes other also)
-one_end (Build input output) bytes frames reads one other so also = built_once output bytes one other reads (builds_so input output bytes one so) (builds_so input output bytes other also)
+one_end (Build options) bytes frames reads one other so also = built_once options.output bytes one other reads (builds_so options bytes one so) (builds_so options bytes other also)

@@ -9,7 +9,7 @@ use Rattle.pbf_blobs.specs.declared.fault.PbfFault.{PbfFault}
 use Rattle.osm_blocks.specs.Faults.{framed_as}
 use Rattle.mjolnir_cli.specs.declared.failure.Failure.TheVariants.{Extract}
 use Rattle.mjolnir_cli.specs.Failures.{of_pbf, cause_of}
-use Rattle.mjolnir_cli.specs.Answers.{blob_line, blob_lines, ListsBlobs, StopsAt}
+use Rattle.mjolnir_cli.specs.Commands.BlobsCommand.{blob_line, blob_lines, ListsBlobs, StopsAt}
 use Rattle.mjolnir_cli.specs.Listing.{IfOfInput}
 use Rattle.mjolnir_cli.proofs.Causes.{if_input_frame, where_map}
 

@@ -6,8 +6,7 @@ use Rattle.std.specs.Option.{option_map, option_and_then}
 use Rattle.std.specs.Str.{bytes_eq}
 use Rattle.std.proofs.lemmas.List.{append-nil, map-append, take_more, take-append-drop}
 use Rattle.host_port.specs.Told.{Told, Stored, stored, file_at, named}
-use Rattle.mjolnir_cli.specs.Said.{Unput}
-use Rattle.mjolnir_cli.specs.Puts.{store_all, paths, PutsAll, IsFront}
+use Rattle.mjolnir_cli.specs.Puts.{Unput, store_all, paths, PutsAll, IsFront}
 
 -- one file more
 store_all_more : (front : List (List ℕ × List ℕ)) (file : List ℕ × List ℕ) (old : List (List ℕ × List ℕ)) → store_all (front ++ file ∷ []) old ≡ stored file.0 file.1 (store_all front old)
@@ -31,6 +30,9 @@ unchanged (Some old) = refl
 no_paths : (old : Option (List (List ℕ))) → old ≡ option_map (λ puts. puts ++ paths []) old
 no_paths None = refl
 no_paths (Some old) = ap Some (sym (append-nil old))
+
+pub puts_of_none : (old new : Told) → Unput old new → PutsAll [] old new
+puts_of_none old new unput = record { stored = unput.files ∙ unchanged old.files; puts = unput.puts ∙ no_paths old.puts }
 
 -- where there is no file, none is put
 take_none : (files : List (List ℕ × List ℕ)) (i : ℕ) → files ≡ [] → take i files ≡ []

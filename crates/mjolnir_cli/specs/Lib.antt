@@ -1,11 +1,9 @@
-pub mod Words
-pub mod Commands
 pub mod Failures
 pub mod PlainList
 pub mod Unbuilt
-pub mod Answers
 pub mod ListReading
-pub mod RoadLists
+pub mod Commands
 pub mod Puts
 pub mod Said
 pub mod Listing
+pub mod Ends

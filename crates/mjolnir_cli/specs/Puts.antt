@@ -27,3 +27,8 @@ pub record IsFront (front whole : List (List ℕ × List ℕ)) : Type 0 where
   pub rest : List (List ℕ × List ℕ)
   pub more : rest ≢ []
   pub is : whole ≡ front ++ rest
+
+-- no file was put or changed
+pub record Unput (old new : Told) : Type 0 where
+  pub files : new.files ≡ old.files
+  pub puts : new.puts ≡ old.puts

@@ -4,7 +4,7 @@ ghost use Rattle.std.specs.Prelude.{◌≡◌, ℕ, ◌++◌, List, length, Some
 ghost use Rattle.std.specs.String.{string_bytes};
 ghost use Rattle.host_port.specs.Told.{named};
 ghost use Rattle.host_port.specs.HostState.{OnlyOpens, OnlyReads};
-ghost use Rattle.mjolnir_cli.specs.Answers.{ListsBlobs, StopsAt, blob_line};
+ghost use Rattle.mjolnir_cli.specs.Commands.BlobsCommand.{ListsBlobs, StopsAt, blob_line};
 ghost use Rattle.mjolnir_cli.specs.Failures.{cause_of};
 ghost use Rattle.mjolnir_cli.specs.Listing.{IfOfInput, IsMet, CountedRead, IfRead};
 

@@ -6,14 +6,12 @@ ghost use Rattle.host_port.specs.Told.{named};
 ghost use Rattle.host_port.specs.HostState.{OnlyOpens, OnlyReads};
 ghost use Rattle.road_pieces.specs.ListWalks.{listed};
 ghost use Rattle.road_pieces.specs.Rows.{junction_rows, piece_rows, refusal};
-ghost use Rattle.mjolnir_cli.specs.Words.{list_path};
+ghost use Rattle.mjolnir_cli.specs.Commands.BuildCommand.{list_path, IsBuilt, IsBuildRefused, IsCut, IsOfExtract, TellsPieces};
 ghost use Rattle.mjolnir_cli.specs.Unbuilt.{unbuilt};
 ghost use Rattle.mjolnir_cli.specs.Failures.{cause_of};
 ghost use Rattle.mjolnir_cli.specs.Puts.{paths};
 ghost use Rattle.mjolnir_cli.specs.PlainList.{list_of};
 ghost use Rattle.mjolnir_cli.specs.ListReading.{pieces_told};
-ghost use Rattle.mjolnir_cli.specs.Answers.{IsBuilt, IsBuildRefused, IsCut, IsOfExtract};
-ghost use Rattle.mjolnir_cli.specs.RoadLists.{TellsPieces};
 ghost use Rattle.mjolnir_cli.specs.Listing.{IfOfInput, IsMet, CountedRead, IfRead};
 
 use crate::answer::Answer;

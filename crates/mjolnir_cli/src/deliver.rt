@@ -4,8 +4,8 @@ ghost use Rattle.std.specs.Prelude.{◌≡◌, ◌≢◌, ◌⊎◌, ℕ, List, 
 ghost use Rattle.host_port.specs.Faults.{Rose};
 ghost use Rattle.mjolnir_cli.specs.declared.failure.Failure.TheVariants.{Put, OutOfMemory};
 ghost use Rattle.mjolnir_cli.specs.Failures.{line_of};
-ghost use Rattle.mjolnir_cli.specs.Puts.{PutsAll, BeginsWith, IsFront};
-ghost use Rattle.mjolnir_cli.specs.Said.{Adds, SaysLine, Unput};
+ghost use Rattle.mjolnir_cli.specs.Puts.{PutsAll, BeginsWith, IsFront, Unput};
+ghost use Rattle.mjolnir_cli.specs.Said.{Adds, SaysLine};
 
 use crate::answer::Answer;
 use crate::failure::Failure;

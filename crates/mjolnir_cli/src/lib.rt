@@ -10,14 +10,14 @@ mod law;
 mod plain;
 mod put;
 mod say;
-#[cfg(test)]
-mod tests;
 mod top;
 mod unbuilt;
 mod words;
+mod worked;
 
 pub use answer::Answer;
 pub use failure::{Failure, failure_lines};
-pub use law::{one_end, some_end};
+pub use law::{one_end, refusals_name_the_input, some_end};
 pub use top::{mjolnir, wordless};
 pub use words::{Command, asked};
+pub use worked::{worked_failures, worked_lines};

@@ -3,8 +3,7 @@
 ghost use Rattle.std.specs.Prelude.{◌≡◌, ℕ, List, [], OnOk, OnErr};
 ghost use Rattle.host_port.specs.HostState.{OnlyPuts};
 ghost use Rattle.host_port.specs.Faults.{Counted, IfFailed};
-ghost use Rattle.mjolnir_cli.specs.Puts.{PutsAll, IsFront};
-ghost use Rattle.mjolnir_cli.specs.Said.{Unput};
+ghost use Rattle.mjolnir_cli.specs.Puts.{PutsAll, IsFront, Unput};
 
 use host_port::{Bytes, Host, HostFault, Text};
 

@@ -1,56 +1,41 @@
-//! What the words of a command line ask for.
+//! What the words of a command line ask the program for.
 
-ghost use Rattle.std.specs.Prelude.{◌≡◌, [], ◌∷◌, map, codes};
-ghost use Rattle.std.specs.Option.{option_map};
+ghost use Rattle.std.specs.Prelude.{◌≡◌, IfOk, map};
 ghost use Rattle.std.specs.String.{string_bytes};
-ghost use Rattle.mjolnir_cli.specs.Words.{asked_by};
-ghost use Rattle.mjolnir_cli.specs.Commands.{request_of};
+ghost use Rattle.mjolnir_cli.specs.Commands.{command_of, command_asked};
 
-/// A command, with the texts of its words.
-#[derive(Clone, Copy, Debug)]
-pub enum Command<'a> {
+use command_words::{BuildOptions, Request};
+use host_port::Text;
+use std::alloc::{AllocError, Global};
+
+/// A command that the program does.
+#[derive(Debug, Drop)]
+pub enum Command {
     /// `blobs PATH`: list the blobs of the file of that path.
-    Blobs { path: &'a str },
+    Blobs { path: Text },
     /// `build --input PATH --output DIR`: put what is built of the extract of that path into that folder.
-    Build { input: &'a str, output: &'a str },
+    Build { options: BuildOptions },
 }
 
-/// What the words ask for: `blobs PATH`, or `build --input PATH --output DIR`, where no path is empty. Other
-/// words ask for nothing.
-pub fn asked(words: &[String]) -> Option<Command<'_>>
-    ensures { option_map request_of result ≡ asked_by (map string_bytes words.now) }
+/// What the words ask for: one of the program's commands, with its values, or nothing.
+#[tactic(auto, unfolding(crate::specs::Commands::command_asked))]
+pub fn asked(alloc: Global, words: &[String]) -> Result<Option<Command>, AllocError>
+    ensures { IfOk result (λ command. command ≡ command_asked (map string_bytes words.now)) }
 {
-    match words {
-        [name, path] => blobs_asked(name.as_str(), path.as_str()),
-        [name, first, input, second, output] => {
-            if first.as_str() == "--input" && second.as_str() == "--output" {
-                build_asked(name.as_str(), input.as_str(), output.as_str())
-            } else {
-                None
-            }
-        }
-        _ => None,
+    match command_words::asked(alloc, words)? {
+        None => Ok(None),
+        Some(request) => Ok(command_of(request)),
     }
 }
 
-/// What two words ask for.
-fn blobs_asked<'a>(name: &str, path: &'a str) -> Option<Command<'a>>
-    ensures { option_map request_of result ≡ asked_by (name.now ∷ path.now ∷ []) }
+/// The command of the program that is asked for.
+fn command_of(request: Request) -> Option<Command>
+    ensures { result ≡ command_of request }
 {
-    if name == "blobs" && !path.is_empty() {
-        Some(Command::Blobs { path })
-    } else {
-        None
-    }
-}
-
-/// What this name asks for with an input and an output.
-fn build_asked<'a>(name: &str, input: &'a str, output: &'a str) -> Option<Command<'a>>
-    ensures { option_map request_of result ≡ asked_by (name.now ∷ codes "--input" ∷ input.now ∷ codes "--output" ∷ output.now ∷ []) }
-{
-    if name == "build" && !input.is_empty() && !output.is_empty() {
-        Some(Command::Build { input, output })
-    } else {
-        None
+    match request {
+        Request::Blobs { path } => Some(Command::Blobs { path }),
+        Request::Build(options) => Some(Command::Build { options }),
+        // Nothing makes its extract yet.
+        Request::Demo { .. } => None,
     }
 }

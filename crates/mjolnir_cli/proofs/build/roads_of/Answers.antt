@@ -1,6 +1,6 @@
 use Rattle.std.proofs.Common.{◌≡◌, Some, false}
 use Rattle.mjolnir_cli.specs.Failures.{cause_of}
-use Rattle.mjolnir_cli.specs.Answers.{IsCut, IsBuildRefused}
+use Rattle.mjolnir_cli.specs.Commands.BuildCommand.{IsCut, IsBuildRefused}
 use Rattle.mjolnir_cli.specs.Listing.{IfOfInput}
 use Rattle.mjolnir_cli.proofs.Causes.{met, counted, if_read, if_input}
 use Rattle.mjolnir_cli.proofs.Cutting.{if_cut, if_placed, if_refused, for_all, for_all_err}

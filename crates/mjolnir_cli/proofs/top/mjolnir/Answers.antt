@@ -1,41 +1,71 @@
--- Where the input has an answer, it isn't refused; and the cause of a failure tells its line and its status.
-use Rattle.std.proofs.Common.{inr, sym, ap, ◌∙◌}
-use Rattle.std.specs.Option.{option_map}
-use Rattle.mjolnir_cli.specs.Commands.{request_of}
-use Rattle.mjolnir_cli.proofs.OneAnswer.{answered, complete, ends_refused, refused_so, line_of_read}
-use Rattle.mjolnir_cli.proofs.Ends.{lists, no_files}
+-- The end of a call is that of the command, or the line of a failure.
+use Rattle.std.proofs.Common.{sym, map, ◌∙◌}
+use Rattle.std.specs.String.{string_bytes}
+use Rattle.mjolnir_cli.specs.Commands.{command_asked}
+use Rattle.mjolnir_cli.proofs.HowItEnds.{wordless_end, memoryless_end, asked_end}
 use Rattle.mjolnir_cli.proofs.top.mjolnir.Goals as goal
 
-pub returns-in-Ok-clause-lists : goal.returns-in-Ok-clause-lists
-returns-in-Ok-clause-lists g c = λ zero input output bytes asks.
-    let state = g.H.Host.state in
-    lists _ (request_of c.in-Some.command) input output bytes c.in-Ok.answer (state c.args.host.now).told (state c.run.new.host).told (state c.deliver.new.host).told c.list_agrees.ensures
-    (sym c.asked.ensures ∙ ap (option_map request_of) c.in-Some.is) c.in-Ok.ensures.told c.in-Ok.ensures.frame.files c.in-Ok.ensures.frame.puts (c.deliver.ensures.done zero) asks
+pub returns-in-Ok-Some-clause-ends : goal.returns-in-Ok-Some-clause-ends
+returns-in-Ok-Some-clause-ends g c =
+    (asked_end c.in-Ok-Some.command _ c.obey.result (g.H.Host.state c.args.host.now) (g.H.Host.state c.obey.new.host) (sym c.in-Ok-Some.field-0-is ∙ c.in-Ok-Some.ensures) c.obey.ensures.end).ends
 
-pub returns-in-Ok-clause-blobs_unput : goal.returns-in-Ok-clause-blobs_unput
-returns-in-Ok-clause-blobs_unput g c = λ path blobs.
-    let still = c.deliver.ensures.none (no_files _ (request_of c.in-Some.command) path c.in-Ok.answer.files (sym c.asked.ensures ∙ ap (option_map request_of) c.in-Some.is) blobs c.in-Ok.ensures.paths) in
-    (record { files = still.0.files ∙ c.in-Ok.ensures.frame.files; puts = still.0.puts ∙ c.in-Ok.ensures.frame.puts }, still.1 ∙ c.in-Ok.ensures.frame.put_faults)
+pub returns-in-Ok-None-clause-ends : goal.returns-in-Ok-None-clause-ends
+returns-in-Ok-None-clause-ends g c =
+    (wordless_end _ c.say_failure.result (g.H.Host.state c.args.host.now) (g.H.Host.state c.say_failure.new.host) (sym c.in-Ok-None.ensures ∙ c.in-Ok-None.field-0-is)
+    (record { statuses = c.say_failure.ensures.status; line = c.say_failure.ensures.line; memory = c.say_failure.ensures.memory; files = c.say_failure.ensures.frame.files; put_paths = c.say_failure.ensures.frame.puts; reads = c.say_failure.ensures.frame.read_faults; puts = c.say_failure.ensures.frame.put_faults }) c.say_failure.ensures.willing).ends
 
-pub returns-in-Ok-clause-refused_only : goal.returns-in-Ok-clause-refused_only
-returns-in-Ok-clause-refused_only g c = λ request bytes failure asks refused unread.
-    absurd (answered c.one_end.ensures _ _ (request_of c.in-Some.command) request bytes _ failure (sym c.asked.ensures ∙ ap (option_map request_of) c.in-Some.is) c.in-Ok.ensures.answered asks refused)
+pub returns-in-Err-clause-ends : goal.returns-in-Err-clause-ends
+returns-in-Err-clause-ends g c =
+    (memoryless_end (command_asked (map string_bytes c.args.words.now)) c.say_failure-in-Err.result (g.H.Host.state c.args.host.now) (g.H.Host.state c.say_failure-in-Err.new.host) (record { statuses = c.say_failure-in-Err.ensures.status; line = c.say_failure-in-Err.ensures.line; memory = c.say_failure-in-Err.ensures.memory; files = c.say_failure-in-Err.ensures.frame.files; put_paths = c.say_failure-in-Err.ensures.frame.puts; reads = c.say_failure-in-Err.ensures.frame.read_faults; puts = c.say_failure-in-Err.ensures.frame.put_faults }) c.say_failure-in-Err.ensures.willing).ends
 
-pub returns-in-Err-clause-read_line : goal.returns-in-Err-clause-read_line
-returns-in-Err-clause-read_line g c = λ three.
-    let state = g.H.Host.state in
-    line_of_read c.in-Err.failure _ (state c.args.host.now).told (state c.run.new.host).told (state c.say_failure-in-Err.new.host).told _ _ _ c.say_failure-in-Err.ensures.status c.say_failure-in-Err.ensures.line c.in-Err.ensures.frame.said c.in-Err.ensures.frame.say_faults three
+pub returns-in-Ok-Some-clause-causes : goal.returns-in-Ok-Some-clause-causes
+returns-in-Ok-Some-clause-causes g c =
+    (asked_end c.in-Ok-Some.command _ c.obey.result (g.H.Host.state c.args.host.now) (g.H.Host.state c.obey.new.host) (sym c.in-Ok-Some.field-0-is ∙ c.in-Ok-Some.ensures) c.obey.ensures.end).causes
 
-pub returns-in-Err-clause-refused : goal.returns-in-Err-clause-refused
-returns-in-Err-clause-refused g c =
-    let state = g.H.Host.state in
-    ends_refused _ (state c.args.host.now).told (request_of c.in-Some.command) c.in-Err.failure _ (state c.run.new.host).told (state c.say_failure-in-Err.new.host).told _ _ _ (sym c.asked.ensures ∙ ap (option_map request_of) c.in-Some.is) c.in-Err.ensures.refused
-    c.say_failure-in-Err.ensures.status c.say_failure-in-Err.ensures.line c.in-Err.ensures.frame.said c.in-Err.ensures.frame.say_faults
+pub returns-in-Ok-None-clause-causes : goal.returns-in-Ok-None-clause-causes
+returns-in-Ok-None-clause-causes g c =
+    (wordless_end _ c.say_failure.result (g.H.Host.state c.args.host.now) (g.H.Host.state c.say_failure.new.host) (sym c.in-Ok-None.ensures ∙ c.in-Ok-None.field-0-is)
+    (record { statuses = c.say_failure.ensures.status; line = c.say_failure.ensures.line; memory = c.say_failure.ensures.memory; files = c.say_failure.ensures.frame.files; put_paths = c.say_failure.ensures.frame.puts; reads = c.say_failure.ensures.frame.read_faults; puts = c.say_failure.ensures.frame.put_faults }) c.say_failure.ensures.willing).causes
 
-pub returns-in-Err-clause-refused_only : goal.returns-in-Err-clause-refused_only
-returns-in-Err-clause-refused_only g c = λ request bytes other asks refused unread.
-    refused_so c.one_end.ensures _ _ (request_of c.in-Some.command) request bytes c.in-Err.failure other _ _ _ _ (sym c.asked.ensures ∙ ap (option_map request_of) c.in-Some.is) c.in-Err.ensures.met c.in-Err.ensures.refused c.in-Err.ensures.faults c.say_failure-in-Err.ensures.frame.read_faults unread asks refused c.say_failure-in-Err.ensures.status
+pub returns-in-Err-clause-causes : goal.returns-in-Err-clause-causes
+returns-in-Err-clause-causes g c =
+    (memoryless_end (command_asked (map string_bytes c.args.words.now)) c.say_failure-in-Err.result (g.H.Host.state c.args.host.now) (g.H.Host.state c.say_failure-in-Err.new.host) (record { statuses = c.say_failure-in-Err.ensures.status; line = c.say_failure-in-Err.ensures.line; memory = c.say_failure-in-Err.ensures.memory; files = c.say_failure-in-Err.ensures.frame.files; put_paths = c.say_failure-in-Err.ensures.frame.puts; reads = c.say_failure-in-Err.ensures.frame.read_faults; puts = c.say_failure-in-Err.ensures.frame.put_faults }) c.say_failure-in-Err.ensures.willing).causes
+
+pub returns-in-Ok-Some-clause-complete : goal.returns-in-Ok-Some-clause-complete
+returns-in-Ok-Some-clause-complete g c =
+    (asked_end c.in-Ok-Some.command _ c.obey.result (g.H.Host.state c.args.host.now) (g.H.Host.state c.obey.new.host) (sym c.in-Ok-Some.field-0-is ∙ c.in-Ok-Some.ensures) c.obey.ensures.end).complete
+
+pub returns-in-Ok-None-clause-complete : goal.returns-in-Ok-None-clause-complete
+returns-in-Ok-None-clause-complete g c =
+    (wordless_end _ c.say_failure.result (g.H.Host.state c.args.host.now) (g.H.Host.state c.say_failure.new.host) (sym c.in-Ok-None.ensures ∙ c.in-Ok-None.field-0-is)
+    (record { statuses = c.say_failure.ensures.status; line = c.say_failure.ensures.line; memory = c.say_failure.ensures.memory; files = c.say_failure.ensures.frame.files; put_paths = c.say_failure.ensures.frame.puts; reads = c.say_failure.ensures.frame.read_faults; puts = c.say_failure.ensures.frame.put_faults }) c.say_failure.ensures.willing).complete
 
 pub returns-in-Err-clause-complete : goal.returns-in-Err-clause-complete
-returns-in-Err-clause-complete g c = λ request bytes answer asks is unread unput unsaid.
-    inr (complete c.one_end.ensures _ _ (request_of c.in-Some.command) request bytes answer c.in-Err.failure _ _ _ _ (sym c.asked.ensures ∙ ap (option_map request_of) c.in-Some.is) c.in-Err.ensures.met c.in-Err.ensures.refused c.in-Err.ensures.faults c.say_failure-in-Err.ensures.frame.read_faults unread asks is c.say_failure-in-Err.ensures.status)
+returns-in-Err-clause-complete g c =
+    (memoryless_end (command_asked (map string_bytes c.args.words.now)) c.say_failure-in-Err.result (g.H.Host.state c.args.host.now) (g.H.Host.state c.say_failure-in-Err.new.host) (record { statuses = c.say_failure-in-Err.ensures.status; line = c.say_failure-in-Err.ensures.line; memory = c.say_failure-in-Err.ensures.memory; files = c.say_failure-in-Err.ensures.frame.files; put_paths = c.say_failure-in-Err.ensures.frame.puts; reads = c.say_failure-in-Err.ensures.frame.read_faults; puts = c.say_failure-in-Err.ensures.frame.put_faults }) c.say_failure-in-Err.ensures.willing).complete
+
+pub returns-in-Ok-Some-clause-willing : goal.returns-in-Ok-Some-clause-willing
+returns-in-Ok-Some-clause-willing g c =
+    (asked_end c.in-Ok-Some.command _ c.obey.result (g.H.Host.state c.args.host.now) (g.H.Host.state c.obey.new.host) (sym c.in-Ok-Some.field-0-is ∙ c.in-Ok-Some.ensures) c.obey.ensures.end).willing
+
+pub returns-in-Ok-None-clause-willing : goal.returns-in-Ok-None-clause-willing
+returns-in-Ok-None-clause-willing g c =
+    (wordless_end _ c.say_failure.result (g.H.Host.state c.args.host.now) (g.H.Host.state c.say_failure.new.host) (sym c.in-Ok-None.ensures ∙ c.in-Ok-None.field-0-is)
+    (record { statuses = c.say_failure.ensures.status; line = c.say_failure.ensures.line; memory = c.say_failure.ensures.memory; files = c.say_failure.ensures.frame.files; put_paths = c.say_failure.ensures.frame.puts; reads = c.say_failure.ensures.frame.read_faults; puts = c.say_failure.ensures.frame.put_faults }) c.say_failure.ensures.willing).willing
+
+pub returns-in-Err-clause-willing : goal.returns-in-Err-clause-willing
+returns-in-Err-clause-willing g c =
+    (memoryless_end (command_asked (map string_bytes c.args.words.now)) c.say_failure-in-Err.result (g.H.Host.state c.args.host.now) (g.H.Host.state c.say_failure-in-Err.new.host) (record { statuses = c.say_failure-in-Err.ensures.status; line = c.say_failure-in-Err.ensures.line; memory = c.say_failure-in-Err.ensures.memory; files = c.say_failure-in-Err.ensures.frame.files; put_paths = c.say_failure-in-Err.ensures.frame.puts; reads = c.say_failure-in-Err.ensures.frame.read_faults; puts = c.say_failure-in-Err.ensures.frame.put_faults }) c.say_failure-in-Err.ensures.willing).willing
+
+pub returns-in-Ok-Some-clause-headline : goal.returns-in-Ok-Some-clause-headline
+returns-in-Ok-Some-clause-headline g c =
+    (asked_end c.in-Ok-Some.command _ c.obey.result (g.H.Host.state c.args.host.now) (g.H.Host.state c.obey.new.host) (sym c.in-Ok-Some.field-0-is ∙ c.in-Ok-Some.ensures) c.obey.ensures.end).headline
+
+pub returns-in-Ok-None-clause-headline : goal.returns-in-Ok-None-clause-headline
+returns-in-Ok-None-clause-headline g c =
+    (wordless_end _ c.say_failure.result (g.H.Host.state c.args.host.now) (g.H.Host.state c.say_failure.new.host) (sym c.in-Ok-None.ensures ∙ c.in-Ok-None.field-0-is)
+    (record { statuses = c.say_failure.ensures.status; line = c.say_failure.ensures.line; memory = c.say_failure.ensures.memory; files = c.say_failure.ensures.frame.files; put_paths = c.say_failure.ensures.frame.puts; reads = c.say_failure.ensures.frame.read_faults; puts = c.say_failure.ensures.frame.put_faults }) c.say_failure.ensures.willing).headline
+
+pub returns-in-Err-clause-headline : goal.returns-in-Err-clause-headline
+returns-in-Err-clause-headline g c =
+    (memoryless_end (command_asked (map string_bytes c.args.words.now)) c.say_failure-in-Err.result (g.H.Host.state c.args.host.now) (g.H.Host.state c.say_failure-in-Err.new.host) (record { statuses = c.say_failure-in-Err.ensures.status; line = c.say_failure-in-Err.ensures.line; memory = c.say_failure-in-Err.ensures.memory; files = c.say_failure-in-Err.ensures.frame.files; put_paths = c.say_failure-in-Err.ensures.frame.puts; reads = c.say_failure-in-Err.ensures.frame.read_faults; puts = c.say_failure-in-Err.ensures.frame.put_faults }) c.say_failure-in-Err.ensures.willing).headline

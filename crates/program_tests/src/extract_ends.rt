@@ -1,14 +1,11 @@
 //! What is looked for where no blob had a fault: an id that comes twice, and objects that aren't built yet. How places
 //! are counted stands in `faults`; where nothing is wrong the line is empty.
 
-use super::HEADER;
-use super::builds::ends;
-use super::faults::{says, two_say};
-use super::plain_extract::data_triple;
-use osm_blocks::{Counted, ExtractFault};
+use program_runs::{ends, says, two_say};
 use std::alloc::{AllocError, Global};
 use std::test::Fail;
 use std::thread::Threads;
+use test_support::{HEADER, data_triple};
 
 // Two data blocks. An id of a node is zigzag: 03 is -2, 0e is 7.
 #[test]
@@ -309,33 +306,5 @@ fn other_keys(rt: HostRuntime) -> Result<(), Fail> {
     ] {
         assert!(rt; is_kept(&rt, key, "")?, "{key}");
     }
-    Ok(())
-}
-
-/// Whether this fault is written so.
-fn reads(alloc: Global, fault: &ExtractFault, line: &str) -> Result<bool, AllocError> {
-    let said = fault.to_string(alloc)?;
-    Ok(said.as_str() == line)
-}
-
-// The texts of faults that only a file of many megabytes has.
-#[test]
-fn faults_of_large_files(rt: HostRuntime) -> Result<(), Fail> {
-    for (what, line) in [
-        (Counted::Nodes, "TooMany what=nodes count=10000001"),
-        (Counted::Ways, "TooMany what=ways count=10000001"),
-        (Counted::Relations, "TooMany what=relations count=10000001"),
-        (Counted::Refs, "TooMany what=refs count=10000001"),
-        (Counted::Members, "TooMany what=members count=10000001"),
-        (Counted::Tags, "TooMany what=tags count=10000001"),
-    ] {
-        let fault = ExtractFault::TooMany {
-            what,
-            count: 10_000_001,
-        };
-        assert!(rt; reads(rt.alloc(), &fault, line)?, "{line}");
-    }
-    let large = ExtractFault::TooLarge { bytes: 536_870_913 };
-    assert!(rt; reads(rt.alloc(), &large, "TooLarge bytes=536870913")?);
     Ok(())
 }

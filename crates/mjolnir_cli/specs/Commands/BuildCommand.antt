@@ -1,53 +1,31 @@
--- What a request's answer is, for the bytes of its input: the files that are put and the text that is said when
--- it is done, or the failure with which the input is refused.
-use Rattle.std.specs.Prelude.{◌≡◌, ◌⊎◌, ℕ, ℤ, List, [], ◌∷◌, ◌++◌, Some, None, Result, Ok, Err}
-use Rattle.std.specs.List.{flat_map}
-use Rattle.std.specs.Fmt.{decimal}
-use Rattle.pbf_blobs.specs.declared.blob.Blob.{Blob}
-use Rattle.pbf_blobs.specs.declared.fault.PbfFault.{PbfFault}
-use Rattle.pbf_blobs.specs.Next.{Ends, Fails}
-use Rattle.pbf_blobs.specs.Frames.{Frames}
+-- The command `build --input PATH --output DIR`: the list of the plain roads of an extract.
+use Rattle.std.specs.Prelude.{◌≡◌, ◌⊎◌, ◌↔◌, ℕ, ℤ, true, List, [], ◌∷◌, ◌++◌, map, Some, None, codes}
+use Rattle.host_port.specs.Told.{Told, named}
 use Rattle.osm_model.specs.declared.extract.Extract.{Extract}
 use Rattle.osm_model.specs.declared.relations.MemberKind.{MemberKind}
-use Rattle.osm_blocks.specs.Faults.{framed_as}
 use Rattle.osm_blocks.specs.Extracts.{Reads, Refuses, lists_of}
 use Rattle.road_pieces.specs.declared.rows.Junction.{Junction}
 use Rattle.road_pieces.specs.declared.rows.Piece.{Piece}
 use Rattle.road_pieces.specs.declared.faults.CutFault.{CutFault}
 use Rattle.road_pieces.specs.declared.faults.CutFault.TheVariants as cut_faults
+use Rattle.road_pieces.specs.Runs.{is_junction}
 use Rattle.road_pieces.specs.Rows.{junction_rows, piece_rows, refusal}
+use Rattle.road_pieces.specs.Modes.{all_mode_bits, IsMode}
+use Rattle.road_pieces.specs.Walks.{RoadWalk}
+use Rattle.road_pieces.specs.ListWalks.{PlainWalk, listed}
 use Rattle.mjolnir_cli.specs.declared.answer.Answer.{Answer}
 use Rattle.mjolnir_cli.specs.declared.failure.Failure.{Failure}
 use Rattle.mjolnir_cli.specs.declared.failure.Failure.TheVariants.{Extract as ExtractFails, NotBuilt, Pieces, EdgeTooLong, OutOfMemory}
-use Rattle.mjolnir_cli.specs.Words.{Request, Blobs, Build, list_path}
 use Rattle.mjolnir_cli.specs.Failures.{of_cut}
 use Rattle.mjolnir_cli.specs.PlainList.{plain_list}
+use Rattle.mjolnir_cli.specs.ListReading.{pieces_told}
 use Rattle.mjolnir_cli.specs.Unbuilt.{unbuilt}
 
--- ---- blobs
+-- ---- its answer
 
--- the line of a blob: the place of its triple, its type and its size
-abbrev pub blob_line : Blob → List ℕ
-blob_line blob = decimal blob.at ++ 32 ∷ (blob.kind ++ 32 ∷ (decimal blob.size ++ 10 ∷ []))
-
-abbrev pub blob_lines : List Blob → List ℕ
-blob_lines blobs = flat_map blob_line blobs
-
--- The bytes are triples to their end, and the text is the lines of their blobs.
-abbrev pub ListsBlobs : List ℕ → List ℕ → Type 0
-ListsBlobs bytes text = (blobs : List Blob) × Frames bytes 0 blobs Ends × (text ≡ blob_lines blobs)
-
--- The bytes begin with triples, and what follows has this fault.
-abbrev pub StopsAt : List ℕ → Failure → Type 0
-StopsAt bytes (ExtractFails fault) = (blobs : List Blob) × (framing : PbfFault) × Frames bytes 0 blobs (Fails framing) × (fault ≡ framed_as framing)
-StopsAt bytes other = ⊥
-
--- No file is put, and the text is the lines of the blobs.
-pub record IsListed (bytes : List ℕ) (answer : Answer) : Type 0 where
-  pub unput : answer.files ≡ []
-  pub lists : ListsBlobs bytes answer.text
-
--- ---- build
+-- the path of the list of plain roads in a folder
+abbrev pub list_path : List ℕ → List ℕ
+list_path output = output ++ codes "/plain.lst"
 
 -- The bytes are the extract x.
 abbrev pub Spells : List ℕ → Extract → Type 0
@@ -72,6 +50,8 @@ pub record IsBuilt (output bytes : List ℕ) (answer : Answer) : Type 0 where
   pub within : refusal (piece_rows extract) ≡ None
   pub files : answer.files ≡ (list_path output, plain_list extract) ∷ []
   pub silent : answer.text ≡ []
+
+-- ---- its refusal
 
 -- The bytes are an extract, and this is its first object that isn't built yet.
 pub record HasUnbuilt (bytes : List ℕ) (kind : MemberKind) (id : ℤ) : Type 0 where
@@ -110,19 +90,30 @@ pub record IsPassed (failure : Failure) (x : Extract) : Type 0 where
 abbrev pub IsOfExtract : Failure → Extract → Type 0
 IsOfExtract failure x = (failure ≡ OutOfMemory) ⊎ (IsUnbuilt failure x ⊎ IsPassed failure x)
 
--- ---- each request
+-- ---- its theorem
 
--- An input of these bytes is answered by this answer.
-abbrev pub IsAnswer : Request → List ℕ → Answer → Type 0
-IsAnswer (Blobs path) bytes answer = IsListed bytes answer
-IsAnswer (Build input output) bytes answer = IsBuilt output bytes answer
+-- For each mode, each two junctions and each length: a walk over the segments of the roads exists exactly where
+-- there is one over the pieces that a reader finds in the bytes of the file, by their starts, ends and lengths.
+abbrev pub HasItsWalks : Extract → List ℕ → Type 0
+HasItsWalks x file =
+    (mode : ℕ) → IsMode mode → (a b : ℤ) → is_junction x a ≡ true → is_junction x b ≡ true → (total : ℕ)
+    → RoadWalk x all_mode_bits mode a b total ↔ PlainWalk (pieces_told file) a b total
 
--- An input of these bytes is refused with this failure.
-abbrev pub IsRefused : Request → List ℕ → Failure → Type 0
-IsRefused (Blobs path) bytes failure = StopsAt bytes failure
-IsRefused (Build input output) bytes failure = IsBuildRefused bytes failure
+-- The bytes are an extract, the file of this path is the list of its junctions and pieces, and what its bytes tell
+-- has exactly the walks of its roads.
+pub record ListsRoads (path bytes : List ℕ) (told : Told) : Type 0 where
+  pub extract : Extract
+  pub spelled : Spells bytes extract
+  pub list : List ℕ
+  pub put : named path told ≡ Some list
+  pub is : list ≡ plain_list extract
+  pub walks : HasItsWalks extract list
 
--- A request ends so for an input of these bytes: with this answer, or refused with this failure.
-abbrev pub EndsSo : Request → List ℕ → Result Answer Failure → Type 0
-EndsSo request bytes (Ok answer) = IsAnswer request bytes answer
-EndsSo request bytes (Err failure) = IsRefused request bytes failure
+-- The bytes are an extract whose objects are all built, the one file is the list of its junctions and pieces, and its
+-- bytes tell these pieces.
+pub record TellsPieces (output bytes : List ℕ) (answer : Answer) : Type 0 where
+  pub extract : Extract
+  pub spelled : Spells bytes extract
+  pub built : unbuilt extract ≡ None
+  pub files : answer.files ≡ (list_path output, plain_list extract) ∷ []
+  pub told : pieces_told (plain_list extract) ≡ map listed (piece_rows extract)

@@ -5,50 +5,8 @@
 //! 4 bytes, a BlobHeader of 11, and the tag and the length of the payload. An object that is the first of its group
 //! has four bytes before it: two tags and two lengths.
 
-use super::HEADER;
-use super::builds::ends;
-use super::plain_extract::data_triple;
-use std::alloc::AllocError;
+use program_runs::says;
 use std::test::Fail;
-use std::thread::Threads;
-
-/// Whether a build of the small header and this data block says this line, or puts a list without roads where the line
-/// is empty.
-pub(super) fn says<R: Threads + Sync + AllocGlobal>(
-    rt: &R,
-    block: &[u8],
-    said: &str,
-) -> Result<bool, AllocError> {
-    let mut bytes = Vec::from_slice(rt.alloc(), &HEADER)?;
-    bytes.extend_from_slice(&data_triple(rt.alloc(), block)?)?;
-    bytes_say(rt, &bytes, said)
-}
-
-/// The same, of two data blocks.
-pub(super) fn two_say<R: Threads + Sync + AllocGlobal>(
-    rt: &R,
-    first: &[u8],
-    second: &[u8],
-    said: &str,
-) -> Result<bool, AllocError> {
-    let mut bytes = Vec::from_slice(rt.alloc(), &HEADER)?;
-    bytes.extend_from_slice(&data_triple(rt.alloc(), first)?)?;
-    bytes.extend_from_slice(&data_triple(rt.alloc(), second)?)?;
-    bytes_say(rt, &bytes, said)
-}
-
-/// The same, of the bytes of a whole file.
-fn bytes_say<R: Threads + Sync + AllocGlobal>(
-    rt: &R,
-    bytes: &[u8],
-    said: &str,
-) -> Result<bool, AllocError> {
-    if said.is_empty() {
-        ends(rt, bytes, 0, "mjolnir-plain 1\n", "")
-    } else {
-        ends(rt, bytes, 5, "older", said)
-    }
-}
 
 // The string table of a block, and the fields that an object has to have. A block begins at 52. The object of the
 // next rows begins at 58: behind an empty table of 2 bytes, and the tag and length of its group and its own.

@@ -1,7 +1,7 @@
 //! Texts that a data block doesn't have, and coordinates of no place, one in a block. How places are counted stands in
 //! `faults`; where nothing is wrong the line is empty.
 
-use super::faults::says;
+use program_runs::says;
 use std::test::Fail;
 
 // A text past the table. Where the table has one text, "", the object is at 52 + 4 + 4 = 60; a dense message has a

@@ -1,6 +1,45 @@
-//! A small writer of extracts: the messages of osmformat.proto and fileformat.proto, field by field.
+//! Small extracts, and a writer of them: the messages of osmformat.proto and fileformat.proto, field by field.
 
 use std::alloc::{AllocError, Global};
+
+/// A header alone: the length 13, the BlobHeader at 4, the Blob of 18 bytes at 17.
+pub const HEADER: [u8; 35] = [
+    0x00, 0x00, 0x00, 0x0d, 0x0a, 0x09, 0x4f, 0x53, 0x4d, 0x48, 0x65, 0x61, 0x64, 0x65, 0x72, 0x18,
+    0x12, 0x0a, 0x10, 0x22, 0x0e, 0x4f, 0x73, 0x6d, 0x53, 0x63, 0x68, 0x65, 0x6d, 0x61, 0x2d, 0x56,
+    0x30, 0x2e, 0x36,
+];
+
+/// The triple behind it: the length 11 at 35, the BlobHeader at 39, the Blob of 62 bytes at 50.
+pub const NODES_AND_WAY: [u8; 77] = [
+    0x00, 0x00, 0x00, 0x0b, 0x0a, 0x07, 0x4f, 0x53, 0x4d, 0x44, 0x61, 0x74, 0x61, 0x18, 0x3e, 0x0a,
+    0x3c, 0x0a, 0x18, 0x0a, 0x00, 0x0a, 0x07, 0x68, 0x69, 0x67, 0x68, 0x77, 0x61, 0x79, 0x0a, 0x0b,
+    0x72, 0x65, 0x73, 0x69, 0x64, 0x65, 0x6e, 0x74, 0x69, 0x61, 0x6c, 0x12, 0x10, 0x12, 0x0e, 0x0a,
+    0x02, 0x02, 0x02, 0x42, 0x02, 0x00, 0x00, 0x4a, 0x04, 0x00, 0xa0, 0x9c, 0x01, 0x12, 0x0e, 0x1a,
+    0x0c, 0x08, 0x0a, 0x12, 0x01, 0x01, 0x1a, 0x01, 0x02, 0x42, 0x02, 0x02, 0x02,
+];
+
+/// A Blob whose payload is compressed by zlib: field 3 instead of field 1.
+pub const COMPRESSED: [u8; 21] = [
+    0x00, 0x00, 0x00, 0x0d, 0x0a, 0x09, 0x4f, 0x53, 0x4d, 0x48, 0x65, 0x61, 0x64, 0x65, 0x72, 0x18,
+    0x04, 0x1a, 0x02, 0x78, 0x9c,
+];
+
+/// The same bytes under the type `Unknown00`.
+pub const UNKNOWN: [u8; 21] = [
+    0x00, 0x00, 0x00, 0x0d, 0x0a, 0x09, 0x55, 0x6e, 0x6b, 0x6e, 0x6f, 0x77, 0x6e, 0x30, 0x30, 0x18,
+    0x04, 0x1a, 0x02, 0x78, 0x9c,
+];
+
+/// The header alone, with a length that isn't below 65,536.
+pub const LONG: [u8; 8] = [0x01, 0x00, 0x00, 0x0d, 0x0a, 0x09, 0x4f, 0x53];
+
+/// The first `count` bytes of the two triples.
+pub fn front(alloc: Global, count: usize) -> Result<Vec<u8>, AllocError> {
+    let mut bytes = Vec::from_slice(alloc, &HEADER)?;
+    bytes.extend_from_slice(&NODES_AND_WAY)?;
+    bytes.truncate(count);
+    Ok(bytes)
+}
 
 /// The texts "", "highway" and "residential", numbered from 0: the string table of a block, field 1.
 const STRINGS: [u8; 26] = [
@@ -9,7 +48,7 @@ const STRINGS: [u8; 26] = [
 ];
 
 /// Seven bits a byte, the lowest first; each byte but the last has its highest bit set.
-fn put_varint(bytes: &mut Vec<u8>, number: u64) -> Result<(), AllocError> {
+pub fn put_varint(bytes: &mut Vec<u8>, number: u64) -> Result<(), AllocError> {
     let mut left = number;
     for _ in 0..10 {
         if left < 128 {
@@ -23,7 +62,7 @@ fn put_varint(bytes: &mut Vec<u8>, number: u64) -> Result<(), AllocError> {
 }
 
 /// A field of bytes behind its tag, the number times eight and two.
-fn put_field(bytes: &mut Vec<u8>, tag: u8, body: &[u8]) -> Result<(), AllocError> {
+pub fn put_field(bytes: &mut Vec<u8>, tag: u8, body: &[u8]) -> Result<(), AllocError> {
     bytes.push(tag)?;
     put_varint(bytes, body.len() as u64)?;
     bytes.extend_from_slice(body)
@@ -75,7 +114,7 @@ fn way_group(alloc: Global, id: u8, refs: &[i64]) -> Result<Vec<u8>, AllocError>
 }
 
 /// A data triple of a raw block: the length of its header in four bytes, the BlobHeader, the Blob.
-pub(super) fn data_triple(alloc: Global, block: &[u8]) -> Result<Vec<u8>, AllocError> {
+pub fn data_triple(alloc: Global, block: &[u8]) -> Result<Vec<u8>, AllocError> {
     let mut blob = Vec::new(alloc);
     put_field(&mut blob, 0x0a, block)?;
     let mut header = Vec::new(alloc);
@@ -90,7 +129,7 @@ pub(super) fn data_triple(alloc: Global, block: &[u8]) -> Result<Vec<u8>, AllocE
 
 /// The extract of this header, of nodes 1, 2 and so on at these latitudes and longitudes, and of residential
 /// way 10 with these refs.
-pub(super) fn extract_of(
+pub fn extract_of(
     alloc: Global,
     header: &[u8],
     lats: &[i64],
@@ -101,7 +140,7 @@ pub(super) fn extract_of(
 }
 
 /// The same, with another id of the way, which is below 128.
-pub(super) fn extract_with_way(
+pub fn extract_with_way(
     alloc: Global,
     header: &[u8],
     lats: &[i64],

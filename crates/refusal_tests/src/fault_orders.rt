@@ -1,7 +1,7 @@
 //! Two faults in one data block: the one that `build` says. How places are counted stands in `faults`; where nothing is
 //! wrong the line is empty. Text 9 isn't in any table.
 
-use super::faults::says;
+use program_runs::says;
 use std::test::Fail;
 
 // MissingField, Uneven, BadString, BadCoordinate, in the node at 58.

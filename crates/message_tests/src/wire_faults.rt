@@ -1,7 +1,7 @@
 //! Bytes of a data block that aren't in the wire format, and fields that come again: the place that `build` names. How
 //! places are counted stands in `faults`; where nothing is wrong the line is empty.
 
-use super::faults::says;
+use program_runs::says;
 use std::test::Fail;
 
 // A field that may come once: the second one is named. The group of the dense messages begins at 52 + 2 + 2 = 56.

@@ -1,11 +1,10 @@
 //! The lines of inputs that `build` refuses, each with its bytes. Nothing is put, and the older list stays.
 
-use super::builds::ends;
-use super::plain_extract::data_triple;
-use super::{COMPRESSED, HEADER, UNKNOWN, front};
+use program_runs::ends;
 use std::alloc::{AllocError, Global};
 use std::test::Fail;
 use std::thread::Threads;
+use test_support::{COMPRESSED, HEADER, UNKNOWN, data_triple, front};
 
 /// Whether a build of these bytes is refused with this line, in pieces of each size.
 fn refuses<R: Threads + Sync + AllocGlobal>(
