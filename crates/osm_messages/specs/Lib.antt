@@ -11,3 +11,4 @@ pub mod Passes
 pub mod Endings
 pub mod Means
 pub mod Faults
+pub mod Sizes
