@@ -4,6 +4,7 @@ ghost use Rattle.std.specs.Prelude.{◌≡◌, ◌+◌, ◌≤◌, ℕ, List, dr
 ghost use Rattle.host_port.specs.Told.{moved};
 ghost use Rattle.pbf_blobs.specs.Input.{OnlyMoved};
 ghost use Rattle.pbf_blobs.specs.Next.{next_of};
+ghost use Rattle.osm_objects.specs.Sizes.{parts_in};
 ghost use Rattle.osm_blocks.specs.Steps.{seen, ArePlaced};
 ghost use Rattle.osm_blocks.specs.ReadAnswers.{AddsNext, Answers, CountedRead, IfRead, bytes_to};
 
@@ -15,17 +16,19 @@ use pbf_blobs::next_blob;
 use std::alloc::Global;
 
 /// Reads the blob at the place `at` and adds what it says to the draft. The place behind it is answered, or nothing
-/// at the end of the input.
+/// at the end of the input. What has been read is never more than the bytes before that place.
 fn add_next<H: Host>(
     alloc: Global,
     host: &mut H,
     at: u64,
     draft: &mut Draft,
 ) -> Result<Option<u64>, ExtractFault>
-    requires { at ≤ 536870912 }
+    requires low { at ≤ 536870912 }
+    requires room { parts_in (seen draft.now).objects ≤ at }
     ensures bytes { (input : List ℕ) → (H.told host.old).input ≡ Some input → (H.told host.old).place ≡ Some at →
         AddsNext (seen draft.old) (seen draft.new) result (next_of at (drop at input)) }
     ensures draft { ArePlaced draft.old → OnOk result (ArePlaced draft.new) }
+    ensures room { IfOk result (λ end. IfSome end (λ end. parts_in (seen draft.new).objects ≤ end)) }
     ensures within { (input : List ℕ) → (H.told host.old).input ≡ Some input → (H.told host.old).place ≡ Some at →
         IfOk result (λ end. MatchOption end (length input ≤ at) (λ end. end ≤ length input)) }
     ensures moved { IfOk result (λ end. H.told host.new ≡ moved (bytes_to at end) (H.told host.old)) }

@@ -15,3 +15,4 @@ pub mod Answers
 pub mod Seen
 pub mod Means
 pub mod Causes
+pub mod Sizes

@@ -10,6 +10,7 @@ loop-end-preserved g c =
     let step = rw c.in-Ok-Some.field-0-is at c.in-Ok-Some.ensures in
     record {
       leads = Leads-next (g.H.Host.told c.args.host.now) (g.H.Host.told c.loop-end.host) (g.H.Host.told c.add_next.new.host) c.loop-end.at c.in-Ok-Some.end (seen c.loop-end.draft) (seen c.add_next.new.draft) l.leads step.ahead.0 step.moved step.others step.bytes step.within;
+      room = step.room;
       low = step.ahead.1;
       placed = step.draft l.placed;
       reads = step.reads ∙ l.reads;
