@@ -11,6 +11,7 @@ use Rattle.pbf_blobs.specs.Frames.{Frames}
 use Rattle.pbf_blobs.specs.Answers.{Where}
 use Rattle.osm_blocks.specs.declared.fault.ExtractFault.{ExtractFault}
 use Rattle.osm_blocks.specs.Faults.{is_read, is_of_bytes}
+use Rattle.osm_objects.specs.Sizes.{parts_in}
 use Rattle.osm_blocks.specs.Extracts.{◌>>=◌, Draft, empty_draft, with_blob, with_blobs, EndsWith, Refuses}
 use Rattle.osm_blocks.specs.Steps.{Finishes}
 use Rattle.osm_blocks.specs.ReadAnswers.{Answers, FailsNext}
@@ -103,6 +104,7 @@ pub record Leads (before now : HostState) (at : ℕ) (draft : Draft) : Type 0 wh
 -- what the loop over the blobs keeps, of the host and of the draft
 pub record Steady (before now : HostState) (at : ℕ) (draft : Draft) (are_placed : Type 0) : Type 0 where
   pub leads : Leads before now at draft
+  pub room : parts_in draft.objects ≤ at
   pub low : at ≤ 536870912
   pub placed : are_placed
   pub no_fault : now.read_faults ≡ before.read_faults

@@ -1,13 +1,11 @@
 -- Lists in order of id, by recursion.
 use Rattle.std.proofs.Common.{◌≡◌, ℕ, zero, suc, ◌+◌, ◌<◌, ◌≤◌, cond, Bool, true, false, ℤ, ◌<ℤ◌, ◌≤ℤ◌, List, [], ◌∷◌, length, get_or, refl, ap, ◌∙◌, subst, arith, Decides}
-use Rattle.std.specs.Prelude.{AllPairs, int_lt}
+use Rattle.std.specs.Prelude.{AllPairs}
 use Rattle.std.specs.Ordering.{int_eq}
 use Rattle.std.proofs.lemmas.Int.{ints}
-use Rattle.std.proofs.lemmas.Bool.{and_parts}
 use Rattle.std.proofs.lemmas.Bool.Decides.{Decides-int_eq, not_from_Decides}
 use Rattle.std.proofs.lemmas.List.Sums.{sum_by-cons}
 use Rattle.osm_blocks.specs.Order.{times}
-use Rattle.osm_blocks.specs.Steps.{all_rise}
 
 -- ---- bounds from below
 
@@ -136,17 +134,3 @@ rises_pairs id_of (x ∷ xs) h = (above xs (λ j d within. h 0 (suc j) d (omega 
     above : (ys : List _) → ((j : ℕ) (d : _) → j < length ys → id_of x <ℤ id_of (get_or ys j d)) → Above id_of (id_of x) ys
     above [] f = tt
     above (y ∷ ys) f = (f 0 y (omega arith), above ys (λ j d within. f (suc j) d (omega arith)))
-
--- ---- the test of the program
-
-below_is : (a b : ℤ) → int_lt a b ≡ true → a <ℤ b
-below_is a b e = omega (arith, ints, e)
-
-pub rises_test : {X : Type 0} (id_of : X → ℤ) (xs : List X) → all_rise id_of xs ≡ true → Rises id_of xs
-rises_test id_of [] e = tt
-rises_test id_of (x ∷ []) e = (tt, tt)
-rises_test id_of (x ∷ y ∷ xs) e =
-    let parts = and_parts (int_lt (id_of x) (id_of y)) (all_rise id_of (y ∷ xs)) e in
-    let rest = rises_test id_of (y ∷ xs) parts.1 in
-    let lt = below_is (id_of x) (id_of y) parts.0 in
-    ((lt, above_lower id_of (id_of x) (id_of y) xs (lt-le (id_of x) (id_of y) lt) rest.0), rest)

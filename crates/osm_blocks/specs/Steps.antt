@@ -1,5 +1,5 @@
 -- The program's draft, and what its steps answer against the definitions. Want of memory may come instead.
-use Rattle.std.specs.Prelude.{◌≡◌, ℕ, ℤ, Bool, true, ◌&&◌, int_lt, if◌then◌else◌, List, [], ◌∷◌, All, Option, Some, None, Result, Ok, Err}
+use Rattle.std.specs.Prelude.{◌≡◌, ℕ, ℤ, if◌then◌else◌, List, [], ◌∷◌, All, Option, Some, None, Result, Ok, Err}
 use Rattle.std.specs.Ordering.{int_eq}
 use Rattle.pbf_blobs.specs.Answers.{Where}
 use Rattle.osm_model.specs.Extract.{AreOrdered}
@@ -42,12 +42,6 @@ AddsObjects old new (Ok _) given = (given >>= λ more. Ok (joined old more)) ≡
 AddsObjects old new (Err fault) given = Where (is_of_bytes fault) (given ≡ Err fault)
 
 -- ---- order
-
--- each id is below the next one
-abbrev pub all_rise : {A : Type 0} → (A → ℤ) → List A → Bool
-all_rise id_of [] = true
-all_rise id_of (x ∷ []) = true
-all_rise id_of (x ∷ y ∷ others) = int_lt (id_of x) (id_of y) && all_rise id_of (y ∷ others)
 
 -- the first id that the next one is too
 abbrev pub next_twice : {A : Type 0} → (A → ℤ) → List A → Option ℤ

@@ -1,6 +1,7 @@
 //! An extract while it is read.
 
-ghost use Rattle.std.specs.Prelude.{◌≡◌, ◌+◌, ◌<◌, ◌^◌, false, length, IfErr, OnOk};
+ghost use Rattle.std.specs.Prelude.{◌≡◌, ◌+◌, ◌<◌, ◌≤◌, ◌^◌, false, length, IfErr, OnOk};
+ghost use Rattle.osm_objects.specs.Sizes.{parts_in};
 ghost use Rattle.osm_blocks.specs.Faults.{is_read};
 
 use crate::counts::{count, first_past};
@@ -27,6 +28,7 @@ impl Draft {
     pub fn new(alloc: Global) -> Draft
         ensures empty { seen result ≡ empty_draft }
         ensures placed { ArePlaced result }
+        ensures none { parts_in (seen result).objects ≡ 0 }
     {
         Draft {
             headed: false,
@@ -34,11 +36,13 @@ impl Draft {
         }
     }
 
-    /// Adds what a blob says.
+    /// Adds what a blob says: at most as many objects, tags, refs and members, all together, as its payload has bytes.
     pub fn add_blob(&mut self, alloc: Global, blob: &Blob) -> Result<(), ExtractFault>
-        requires { blob.now.raw_at + length blob.now.raw < 2 ^ 64 }
+        requires places { blob.now.raw_at + length blob.now.raw < 2 ^ 64 }
+        requires room { parts_in (seen self.now).objects + length blob.now.raw < 2 ^ 31 }
         ensures blob { Becomes result (seen self.new) (with_blob (seen self.old) blob.now) }
         ensures placed { ArePlaced self.old → OnOk result (ArePlaced self.new) }
+        ensures grown { OnOk result (parts_in (seen self.new).objects ≤ parts_in (seen self.old).objects + length blob.now.raw) }
         ensures no_read { IfErr result (λ fault. is_read fault ≡ false) }
     {
         let kind = blob.kind.as_str();

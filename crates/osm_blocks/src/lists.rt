@@ -1,8 +1,9 @@
 //! The objects of all blocks.
 
-ghost use Rattle.std.specs.Prelude.{◌≡◌, ◌+◌, ◌<◌, ◌^◌, false, None, length, All, IfOk, IfErr, OnOk};
+ghost use Rattle.std.specs.Prelude.{◌≡◌, ◌+◌, ◌<◌, ◌≤◌, ◌^◌, false, None, length, All, IfOk, IfErr, OnOk};
 ghost use Rattle.osm_model.specs.OsmNode.{IsPlaced};
 ghost use Rattle.osm_objects.specs.Seen.{seen_objects};
+ghost use Rattle.osm_objects.specs.Sizes.{parts_in};
 ghost use Rattle.osm_blocks.specs.Faults.{is_read};
 ghost use Rattle.osm_blocks.specs.Counts.{counts_of, first_past};
 ghost use Rattle.osm_blocks.specs.Extracts.{objects_in, lists_of};
@@ -22,9 +23,11 @@ pub fn add_block(
     bytes: &[u8],
     at: u64,
 ) -> Result<(), ExtractFault>
-    requires { at + length bytes.now < 2 ^ 64 }
+    requires places { at + length bytes.now < 2 ^ 64 }
+    requires room { parts_in (seen_objects lists.now) + length bytes.now < 2 ^ 31 }
     ensures objects { AddsObjects (seen_objects lists.old) (seen_objects lists.new) result (objects_in at bytes.now) }
     ensures placed { All IsPlaced lists.old.nodes → OnOk result (All IsPlaced lists.new.nodes) }
+    ensures grown { OnOk result (parts_in (seen_objects lists.new) ≤ parts_in (seen_objects lists.old) + length bytes.now) }
     ensures no_read { IfErr result (λ fault. is_read fault ≡ false) }
 {
     let block = match read_block(alloc, bytes, at) {

@@ -9,6 +9,7 @@ ghost use Rattle.osm_blocks.specs.Extracts.{lists_of};
 ghost use Rattle.osm_blocks.specs.Faults.{is_of_bytes};
 ghost use Rattle.osm_blocks.specs.FileContent.{IsFileOf};
 ghost use Rattle.osm_blocks.specs.FileFaults.{IsFaultyFile};
+ghost use Rattle.osm_objects.specs.Sizes.{parts_in};
 ghost use Rattle.osm_blocks.specs.Steps.{seen, ArePlaced};
 ghost use Rattle.osm_blocks.specs.ReadAnswers.{AddsNext, Answers, CountedRead, IfRead, bytes_to};
 
@@ -21,17 +22,19 @@ use pbf_blobs::next_blob;
 use std::alloc::Global;
 
 /// Reads the blob at the place `at` and adds what it says to the draft. The place behind it is answered, or nothing
-/// at the end of the input.
+/// at the end of the input. What has been read is never more than the bytes before that place.
 fn add_next<H: Host>(
     alloc: Global,
     host: &mut H,
     at: u64,
     draft: &mut Draft,
 ) -> Result<Option<u64>, ExtractFault>
-    requires { at ≤ 536870912 }
+    requires low { at ≤ 536870912 }
+    requires room { parts_in (seen draft.now).objects ≤ at }
     ensures bytes { (input : List ℕ) → (H.state host.old).told.input ≡ Some input → (H.state host.old).told.place ≡ Some at →
         AddsNext (seen draft.old) (seen draft.new) result (next_of at (drop at input)) }
     ensures draft { ArePlaced draft.old → OnOk result (ArePlaced draft.new) }
+    ensures room { IfOk result (λ end. IfSome end (λ end. parts_in (seen draft.new).objects ≤ end)) }
     ensures within { (input : List ℕ) → (H.state host.old).told.input ≡ Some input → (H.state host.old).told.place ≡ Some at →
         IfOk result (λ end. MatchOption end (length input ≤ at) (λ end. end ≤ length input)) }
     ensures moved { IfOk result (λ end. (H.state host.new).told ≡ moved (bytes_to at end) (H.state host.old).told) }

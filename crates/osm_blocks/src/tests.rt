@@ -462,6 +462,9 @@ const COUNTED: [u8; 97] =
 
 // The counts of that block's nodes, ways, relations, refs, members and tags.
 fn counts_of(alloc: Global, block: &[u8]) -> Option<[u64; 6]> {
+    if block.len() > 1_000_000 {
+        return None;
+    }
     let Ok(raw) = read_block(alloc, block, 0) else {
         return None;
     };

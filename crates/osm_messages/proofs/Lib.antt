@@ -14,3 +14,4 @@ pub mod FirstFaults
 pub mod FirstInObjects
 pub mod FirstInBlocks
 pub mod NoMemory
+pub mod Weights

@@ -12,3 +12,4 @@ pub mod Endings
 pub mod Means
 pub mod Faults
 pub mod FaultLines
+pub mod Sizes

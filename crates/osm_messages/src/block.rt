@@ -1,10 +1,11 @@
 //! Data blocks.
-ghost use Rattle.std.specs.Prelude.{◌≡◌, ◌+◌, ◌<◌, ◌^◌, length, map, All, IfOk};
+ghost use Rattle.std.specs.Prelude.{◌≡◌, ◌+◌, ◌<◌, ◌≤◌, ◌^◌, length, map, All, IfOk};
 ghost use Rattle.wire_read.specs.Fields.{seen, inner_length, content_of};
 ghost use Rattle.osm_messages.specs.Answers.{Answers, Becomes};
 ghost use Rattle.osm_messages.specs.Groups.{HasNumbers};
 ghost use Rattle.osm_messages.specs.Blocks.{with_table, with_scalar, block_step, block_in};
 ghost use Rattle.osm_messages.specs.Seen.{seen_object, seen_block};
+ghost use Rattle.osm_messages.specs.Sizes.{object_bytes};
 
 use crate::fault::MessageFault;
 use crate::group::read_group;
@@ -105,6 +106,7 @@ pub fn read_block<'a>(alloc: Global, bytes: &'a [u8], at: u64) -> Result<RawBloc
     requires { at + length bytes.now < 2 ^ 64 }
     ensures block { Answers seen_block result (block_in at bytes.now) }
     ensures spelled { IfOk result (λ raw. All HasNumbers (map seen_object raw.objects.items)) }
+    ensures few { IfOk result (λ raw. object_bytes (map seen_object raw.objects.items) ≤ length bytes.now) }
 {
     let mut block = RawBlock {
         texts: None,

@@ -1,13 +1,13 @@
 -- Members stay as they are where roles are added after theirs.
-use Rattle.std.proofs.Common.{◌≡◌, ℕ, ℤ, ◌-◌, refl, sym, ◌∙◌, ap, subst, List, [], ◌∷◌, ◌++◌, length, map, take, drop, arith}
-use Rattle.std.specs.Prelude.{slice_range, slice_get, Some}
+use Rattle.std.proofs.Common.{◌≡◌, ℕ, ℤ, ◌+◌, ◌-◌, ◌≤◌, refl, sym, ◌∙◌, ap, subst, List, [], ◌∷◌, ◌++◌, length, map, take, drop, arith}
+use Rattle.std.specs.Prelude.{true, false, slice_range, slice_get, Some}
 use Rattle.std.proofs.lemmas.List.{length-append, map-append, get_or_append_left, take-map, drop-map}
 use Rattle.std.proofs.lemmas.List.Elements.{All-head, All-tail, All-push}
 use Rattle.std.proofs.lemmas.Option.{get_or_from_slice_get, slice_get_within}
 use Rattle.osm_model.specs.declared.relations.Member.{Member}
 use Rattle.osm_model.specs.declared.relations.MemberKind.{MemberKind}
 use Rattle.osm_model.specs.declared.member_rows.Mark.{Mark}
-use Rattle.osm_model.specs.MemberRows.{member_of, HasRole, HaveRoles}
+use Rattle.osm_model.specs.MemberRows.{member_of, HasRole, HaveRoles, AreMembers}
 use Rattle.osm_model.specs.Grew.{Grew}
 
 members_append : (roles more : List (List ℕ)) (marks : List Mark) → HaveRoles roles marks → map (member_of (roles ++ more)) marks ≡ map (member_of roles) marks
@@ -49,3 +49,17 @@ pub members_part : (old : List Member) (roles roles' : List (List ℕ)) (marks :
 members_part old roles roles' marks from to e same =
     ap (λ t. map (member_of t) (slice_range marks from to)) same ∙ (sym (take-map (member_of roles) (to - from) (drop from marks)) ∙
     (ap (take (to - from)) (sym (drop-map (member_of roles) from marks)) ∙ ap (λ l. slice_range l from to) e))
+
+-- where memory was short the members stay, with more roles than they need
+pub members_short : (roles new : List (List ℕ)) (marks marks' : List Mark) → HaveRoles roles marks → Grew roles new → marks' ≡ marks → AreMembers new marks' true
+members_short roles new marks marks' h g same =
+    record { have_roles = subst (HaveRoles new) (sym same) (roles_stay roles new marks h g); few = λ e. absurd (cc e) }
+
+-- a member more has one role more at most
+pub members_pushed : (roles new : List (List ℕ)) (marks marks' : List Mark) (mark : Mark) (n : ℕ) (role : List ℕ) (kind : MemberKind) (id : ℤ) → HaveRoles roles marks → length roles ≤ length marks → Grew roles new → length new ≤ length roles + 1 → slice_get new n ≡ Some role → mark ≡ record { role = n; kind = kind; id = id } → marks' ≡ marks ++ mark ∷ [] → AreMembers new marks' false
+members_pushed roles new marks marks' mark n role kind id h few g one there is pushed =
+    let more : length marks' ≡ length (marks ++ mark ∷ []) = ap (λ l. length l) pushed in
+    record {
+      have_roles = roles_more roles new marks marks' mark n role kind id h g there is pushed;
+      few = λ e. omega (arith, few, one, more, length-append marks (mark ∷ []));
+    }

@@ -1,18 +1,20 @@
 -- Relations stay as they are where tags and members are added after theirs.
-use Rattle.std.proofs.Common.{◌≡◌, ℤ, ◌<◌, refl, ◌∙◌, ap, subst, get_or, ◌+◌, List, [], ◌∷◌, ◌++◌, length, map, arith}
-use Rattle.std.specs.Prelude.{slice_range, IsPermutation, pos}
+use Rattle.std.proofs.Common.{◌≡◌, ℕ, ℤ, ◌<◌, ◌≤◌, refl, sym, ◌∙◌, ap, subst, get_or, ◌+◌, List, [], ◌∷◌, ◌++◌, length, map, arith}
+use Rattle.std.specs.Prelude.{Bool, true, false, All, slice_range, IsPermutation, pos}
 use Rattle.std.specs.List.Sorted.{IsSortedByKey}
 use Rattle.std.specs.Ordering.{int_cmp, is_lt}
-use Rattle.std.proofs.lemmas.List.Sorted.{IsPermutation-map}
-use Rattle.std.proofs.lemmas.List.{map-append, get_or-map, length-map}
-use Rattle.std.proofs.lemmas.List.Elements.{All-head, All-tail}
+use Rattle.std.proofs.lemmas.List.Sorted.{IsPermutation-map, All-permutation, sum_by-IsPermutation}
+use Rattle.std.proofs.lemmas.List.Sums.{sum_by_push}
+use Rattle.std.proofs.lemmas.List.{map-append, get_or-map, length-map, length-append}
+use Rattle.std.proofs.lemmas.List.Elements.{All-head, All-tail, All-push}
 use Rattle.osm_model.specs.declared.tags.Tag.{Tag}
 use Rattle.osm_model.specs.declared.relations.Member.{Member}
 use Rattle.osm_model.specs.declared.relations.OsmRelation.{OsmRelation}
 use Rattle.osm_model.specs.declared.relations.RelationRow.{RelationRow}
-use Rattle.osm_model.specs.RelationRows.{relation_of, IsInside, AreInside}
+use Rattle.osm_model.specs.Extract.{members_in, tags_of_relations}
+use Rattle.osm_model.specs.RelationRows.{relation_of, IsInside, AreInside, AreOwn, AreRelations}
 use Rattle.osm_model.specs.Grew.{Grew}
-use Rattle.osm_model.proofs.TextLemmas.{part_append, part_end}
+use Rattle.osm_model.proofs.TextLemmas.{part_append, part_end, grew_longer}
 
 relations_append : (tags more : List Tag) (members most : List Member) (rows : List RelationRow) → AreInside tags members rows → map (relation_of (tags ++ more) (members ++ most)) rows ≡ map (relation_of tags members) rows
 relations_append tags more members most [] kept = refl
@@ -53,3 +55,52 @@ rows_sorted tags members rows sorted =
     get_or-map (relation_of tags members) rows k none d (omega (arith, within)) in
     ap (λ w. is_lt (int_cmp w.id (get_or (map (relation_of tags members) rows) k d).id)) at ∙
     (ap (λ w. is_lt (int_cmp (get_or rows (k + 1) none).id w.id)) before ∙ sorted k none low within)
+
+-- ---- tags and members that are those of the relations
+
+wider : (tags tags' members members' : ℕ) (rows : List RelationRow) → tags ≤ tags' → members ≤ members' → All (IsInside tags members) rows → All (IsInside tags' members') rows
+wider tags tags' members members' rows l m h =
+    λ k d w. let here = h k d w in
+    record { tags_rise = here.tags_rise; tags_inside = omega (arith, here.tags_inside); members_rise = here.members_rise; members_inside = omega (arith, here.members_inside) }
+
+-- where memory was short the relations stay, with more tags and members than they have
+pub relations_short : (tags tags' : List Tag) (members members' : List Member) (rows rows' : List RelationRow) → AreInside tags members rows → Grew tags tags' → Grew members members' → rows' ≡ rows → AreRelations tags' members' rows' true
+relations_short tags tags' members members' rows rows' kept g h same =
+    record {
+      kept = subst (AreInside tags' members') (sym same) (wider (length tags) (length tags') (length members) (length members') rows (grew_longer tags tags' g) (grew_longer members members' h) kept);
+      theirs = λ e. absurd (cc e);
+    }
+
+-- one relation more
+pub relations_pushed : (old : List OsmRelation) (tags tags' some : List Tag) (members members' more : List Member) (rows rows' : List RelationRow) (id : ℤ) → map (relation_of tags members) rows ≡ old → AreInside tags members rows → AreOwn tags members rows → tags' ≡ tags ++ some → members' ≡ members ++ more → rows' ≡ rows ++ record { id = id; tags_from = length tags; tags_to = length tags'; members_from = length members; members_to = length members' } ∷ [] → AreRelations tags' members' rows' false
+relations_pushed old tags tags' some members members' more rows rows' id e kept theirs g h pushed =
+    let row : RelationRow = record { id = id; tags_from = length tags; tags_to = length tags'; members_from = length members; members_to = length members' } in
+    let relation : OsmRelation = record { id = id; tags = some; members = more } in
+    let all_tags : length tags' ≡ length tags + length some = ap (λ l. length l) g ∙ length-append tags some in
+    let all_members : length members' ≡ length members + length more = ap (λ l. length l) h ∙ length-append members more in
+    let is : map (relation_of tags' members') rows' ≡ old ++ relation ∷ [] = relation_behind old tags tags' some members members' more rows rows' id e kept g h pushed in
+    record {
+      kept = subst (AreInside tags' members') (sym pushed)
+          (All-push (IsInside (length tags') (length members')) rows row
+          (wider (length tags) (length tags') (length members) (length members') rows (omega (arith, all_tags)) (omega (arith, all_members)) kept)
+          (record { tags_rise = omega (arith, all_tags); tags_inside = omega arith; members_rise = omega (arith, all_members); members_inside = omega arith }));
+      theirs = λ _. record {
+        own_tags = all_tags ∙ (ap (λ n. n + length some) (theirs.own_tags ∙ ap tags_of_relations e) ∙ sym (ap tags_of_relations is ∙ sum_by_push (λ (r : OsmRelation). length r.tags) old relation));
+        own_members = all_members ∙ (ap (λ n. n + length more) (theirs.own_members ∙ ap members_in e) ∙ sym (ap members_in is ∙ sum_by_push (λ (r : OsmRelation). length r.members) old relation));
+      };
+    }
+
+-- relations in another order have the same tags and members
+pub relations_other : (tags : List Tag) (members : List Member) (rows rows' : List RelationRow) (short : Bool) → AreRelations tags members rows short → IsPermutation rows rows' → AreRelations tags members rows' short
+relations_other tags members rows rows' short are same =
+    let moved : IsPermutation (map (relation_of tags members) rows) (map (relation_of tags members) rows') = IsPermutation-map (relation_of tags members) rows rows' same in
+    record {
+      kept = All-permutation (IsInside (length tags) (length members)) rows rows' same are.kept;
+      theirs = λ e. record {
+        own_tags = (are.theirs e).own_tags ∙ sym (sum_by-IsPermutation (λ (r : OsmRelation). length r.tags) (map (relation_of tags members) rows) (map (relation_of tags members) rows') moved);
+        own_members = (are.theirs e).own_members ∙ sym (sum_by-IsPermutation (λ (r : OsmRelation). length r.members) (map (relation_of tags members) rows) (map (relation_of tags members) rows') moved);
+      };
+    }
+
+pub row_is : (rows rows' : List RelationRow) (id : ℤ) (a a' b b' c c' d d' : ℕ) → a ≡ a' → b ≡ b' → c ≡ c' → d ≡ d' → rows' ≡ rows ++ record { id = id; tags_from = a; tags_to = b; members_from = c; members_to = d } ∷ [] → rows' ≡ rows ++ record { id = id; tags_from = a'; tags_to = b'; members_from = c'; members_to = d' } ∷ []
+row_is rows rows' id a a' b b' c c' d d' e f g h pushed = rw (sym e, sym f, sym g, sym h) pushed

@@ -1,5 +1,5 @@
 -- How members are kept: by the numbers of their roles.
-use Rattle.std.specs.Prelude.{◌<◌, ℕ, List, [], length, All}
+use Rattle.std.specs.Prelude.{◌≡◌, ◌<◌, ◌≤◌, ℕ, Bool, false, List, [], length, All}
 use Rattle.std.specs.List.{slice_index_or}
 use Rattle.osm_model.specs.declared.relations.Member.{Member}
 use Rattle.osm_model.specs.declared.member_rows.Mark.{Mark}
@@ -14,3 +14,8 @@ pub record HasRole (count : ℕ) (mark : Mark) : Type 0 where
 
 abbrev pub HaveRoles : List (List ℕ) → List Mark → Type 0
 HaveRoles roles marks = All (HasRole (length roles)) marks
+
+-- They have roles, of which there is at most one a member where memory was never short.
+pub record AreMembers (roles : List (List ℕ)) (marks : List Mark) (short : Bool) : Type 0 where
+  pub have_roles : HaveRoles roles marks
+  pub few : short ≡ false → length roles ≤ length marks

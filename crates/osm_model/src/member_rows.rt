@@ -1,6 +1,6 @@
 //! Members of many relations.
 
-ghost use Rattle.std.specs.Prelude.{◌≡◌, ◌<◌, ◌≤◌, ◌++◌, ◌∷◌, [], length, OnOk, OnErr, IsTrue, ◌↔◌, slice_range, slice_index_or};
+ghost use Rattle.std.specs.Prelude.{◌≡◌, ◌<◌, ◌≤◌, ◌+◌, ◌^◌, ◌++◌, ◌∷◌, [], length, OnOk, OnErr, IsTrue, ◌↔◌, slice_range, slice_index_or};
 ghost use Rattle.osm_model.specs.Grew.{Grew};
 
 use crate::relations::{Member, MemberKind};
@@ -22,6 +22,8 @@ pub(crate) struct Mark {
 pub(crate) struct MemberRows {
     roles: TextTable,
     marks: Vec<Mark>,
+    /// Memory was wanting: a role may stand here that no member has, and no member is taken any more.
+    short: bool,
 }
 
 impl Model for MemberRows {
@@ -30,11 +32,11 @@ impl Model for MemberRows {
 
     ghost Value = { List Member };
 
-    ghost use Rattle.osm_model.specs.MemberRows.{member_of, HaveRoles};
+    ghost use Rattle.osm_model.specs.MemberRows.{member_of, AreMembers};
 
     ghost view = { λ a. map (member_of a.roles) a.marks.items };
 
-    ghost invariant = { λ a. HaveRoles a.roles a.marks.items };
+    ghost invariant = { λ a. AreMembers a.roles a.marks.items a.short };
 }
 
 impl MemberRows {
@@ -45,6 +47,7 @@ impl MemberRows {
         MemberRows {
             roles: TextTable::new(alloc),
             marks: Vec::new(alloc),
+            short: false,
         }
     }
 
@@ -55,21 +58,28 @@ impl MemberRows {
         self.marks.len()
     }
 
-    #[tactic(auto, using(crate::proofs::MemberLemmas::member_behind, crate::proofs::MemberLemmas::members_kept, crate::proofs::MemberLemmas::roles_more, crate::proofs::MemberLemmas::roles_stay))]
-    /// Puts a member after the last one. Without memory the list stays as it was.
+    #[tactic(auto, using(crate::proofs::MemberLemmas::member_behind, crate::proofs::MemberLemmas::members_kept, crate::proofs::MemberLemmas::members_pushed, crate::proofs::MemberLemmas::members_short))]
+    /// Puts a member after the last one. Without memory the list stays as it was, from then on.
     pub fn push(&mut self, member: &Member) -> Result<(), AllocError>
+        requires { length self.now + 1 < 2 ^ 31 }
         ensures ok { OnOk result (self.new ≡ self.old ++ member.now ∷ []) }
         ensures err { OnErr result (self.new ≡ self.old) }
     {
-        let role = self.roles.add(&member.role)?;
+        if self.short {
+            return Err(AllocError);
+        }
+        self.short = true;
+        let role = self.roles.put(&member.role)?;
         let mark = mark_of(role, member.kind, &member.id);
         self.marks.push(mark)?;
+        self.short = false;
         Ok(())
     }
 
     #[tactic(auto, using(crate::proofs::TextLemmas::grew_none, crate::proofs::TextLemmas::grew_by))]
     /// Puts members after the last one. Without memory some of them may be there.
     pub fn extend(&mut self, members: &[Member]) -> Result<(), AllocError>
+        requires { length self.now + length members.now < 2 ^ 31 }
         ensures ok { OnOk result (self.new ≡ self.old ++ members.now) }
         ensures grew { Grew self.old self.new }
     {

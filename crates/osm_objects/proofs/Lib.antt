@@ -20,3 +20,4 @@ pub mod LawRanks
 pub mod LawFirst
 pub mod LawKinds
 pub mod LawBlocks
+pub mod Counted

@@ -16,3 +16,4 @@ pub mod Seen
 pub mod Means
 pub mod Causes
 pub mod FaultLines
+pub mod Sizes

@@ -1,5 +1,6 @@
 //! Nodes in dense messages.
-ghost use Rattle.std.specs.Prelude.{◌≡◌, length, IsOk};
+ghost use Rattle.std.specs.Prelude.{◌≡◌, ◌+◌, ◌<◌, ◌^◌, length, IsOk};
+ghost use Rattle.osm_model.specs.Extract.{tags_of_nodes};
 ghost use Rattle.osm_messages.specs.Lists.{seen_lists};
 ghost use Rattle.osm_objects.specs.Groups.{groups_of};
 ghost use Rattle.osm_objects.specs.FirstGroups.{nodes_read};
@@ -40,6 +41,8 @@ fn add_nodes(
     requires lats { length sums.now.lats.items ≡ length sums.now.ids.items }
     requires lons { length sums.now.lons.items ≡ length sums.now.ids.items }
     requires groups { IsOk (groups_of at (length sums.now.ids.items) keys_values.now) }
+    requires places { length nodes.now + length sums.now.ids.items < 2 ^ 31 }
+    requires room { tags_of_nodes nodes.now + length keys_values.now < 2 ^ 31 }
     ensures nodes { Becomes result nodes.new (after nodes.old (nodes_read (table_of texts.old) scale at sums.now.ids.items sums.now.lats.items sums.now.lons.items keys_values.now)) }
     ensures table { table_of texts.new ≡ table_of texts.old }
 {
@@ -48,7 +51,7 @@ fn add_nodes(
     for i in 0..sums.ids.len() {
         rest = read_group(alloc, texts, at, rest, tags)?;
         match scale.place(sums.lats[i], sums.lons[i]) {
-            Some((lat, lon)) => nodes.push_parts(sums.ids[i], lat, lon, tags.as_slice())?,
+            Some((lat, lon)) => nodes.append_parts(sums.ids[i], lat, lon, tags.as_slice())?,
             None => misplaced = misplaced.or(Some(sums.ids[i])),
         }
     }
@@ -70,6 +73,8 @@ pub fn add_dense(
     tags: &mut Vec<Tag>,
     nodes: &mut Nodes,
 ) -> Result<(), ObjectFault>
+    requires places { length nodes.now + length lists.now.first.items < 2 ^ 31 }
+    requires room { tags_of_nodes nodes.now + length lists.now.tenth.items < 2 ^ 31 }
     ensures nodes { Becomes result nodes.new (after nodes.old (dense_of (table_of texts.old) scale at (seen_lists lists.now))) }
     ensures table { table_of texts.new ≡ table_of texts.old }
 {

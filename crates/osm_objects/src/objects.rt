@@ -1,11 +1,13 @@
 //! The objects of blocks.
-ghost use Rattle.std.specs.Prelude.{◌≡◌, [], map, All, OnOk};
+ghost use Rattle.std.specs.Prelude.{◌≡◌, ◌+◌, ◌<◌, ◌≤◌, ◌^◌, [], length, map, All, OnOk};
 ghost use Rattle.osm_messages.specs.Groups.{HasNumbers};
 ghost use Rattle.osm_messages.specs.Seen.{seen_object, seen_block};
+ghost use Rattle.osm_messages.specs.Sizes.{object_bytes};
 ghost use Rattle.osm_model.specs.OsmNode.{IsPlaced};
 ghost use Rattle.osm_objects.specs.Objects.{Spelled, no_objects, behind, with_object, scale_of, objects_of};
 ghost use Rattle.osm_objects.specs.Answers.{Becomes};
 ghost use Rattle.osm_objects.specs.Seen.{table_of, seen_objects};
+ghost use Rattle.osm_objects.specs.Sizes.{parts_in};
 
 use crate::dense::{Sums, add_dense};
 use crate::fault::ObjectFault;
@@ -58,7 +60,8 @@ fn add_object(
     room: &mut Room,
     lists: &mut ObjectLists,
 ) -> Result<(), ObjectFault>
-    requires { HasNumbers (seen_object object.now) }
+    requires numbers { HasNumbers (seen_object object.now) }
+    requires room { parts_in (seen_objects lists.now) + length object.now.bytes.now < 2 ^ 31 }
     ensures objects { Becomes result (seen_objects lists.new) (with_object (table_of texts.old) scale (seen_objects lists.old) (seen_object object.now)) }
     ensures table { table_of texts.new ≡ table_of texts.old }
 {
@@ -71,7 +74,9 @@ fn add_object(
         ObjectKind::Node => {
             let spot = read_node(alloc, texts, scale, at, &room.lists, &mut room.tags)?;
             let Spot { id, lat, lon } = spot;
-            lists.nodes.push_parts(id, lat, lon, room.tags.as_slice())?;
+            lists
+                .nodes
+                .append_parts(id, lat, lon, room.tags.as_slice())?;
         }
         ObjectKind::Dense => add_dense(
             alloc,
@@ -87,7 +92,7 @@ fn add_object(
             let refs = &mut room.sums.ids;
             let id = read_way(alloc, texts, at, &room.lists, &mut room.tags, refs)?;
             let refs = room.sums.ids.as_slice();
-            lists.ways.push_parts(id, room.tags.as_slice(), refs)?;
+            lists.ways.append_parts(id, room.tags.as_slice(), refs)?;
         }
         ObjectKind::Relation => {
             let id = read_relation(
@@ -103,7 +108,7 @@ fn add_object(
             let members = room.members.as_slice();
             lists
                 .relations
-                .push_parts(id, room.tags.as_slice(), members)?;
+                .append_parts(id, room.tags.as_slice(), members)?;
         }
     }
     Ok(())
@@ -123,6 +128,8 @@ fn block_scale(block: &RawBlock<'_>) -> Scale
 /// Puts the objects of a block behind the others, each list in the order of the bytes (osmformat.proto). The block's
 /// first byte stands at `at`.
 ///
+/// There has to be room for an object, a tag, a ref or a member for each byte of the objects; more are never put there.
+///
 /// The fault is `MissingField` for a block without a string table, or else that of the first object which has one.
 /// Nothing is promised of the lists then.
 pub fn add_objects(
@@ -131,9 +138,11 @@ pub fn add_objects(
     at: u64,
     lists: &mut ObjectLists,
 ) -> Result<(), ObjectFault>
-    requires { Spelled (seen_block block.now) }
+    requires spelled { Spelled (seen_block block.now) }
+    requires room { parts_in (seen_objects lists.now) + object_bytes (seen_block block.now).objects < 2 ^ 31 }
     ensures objects { Becomes result (seen_objects lists.new) (behind (seen_objects lists.old) (objects_of at (seen_block block.now))) }
     ensures placed { All IsPlaced lists.old.nodes → OnOk result (All IsPlaced lists.new.nodes) }
+    ensures grown { OnOk result (parts_in (seen_objects lists.new) ≤ parts_in (seen_objects lists.old) + object_bytes (seen_block block.now).objects) }
 {
     let Some(table) = &block.texts else {
         return Err(ObjectFault::MissingField { at, number: 1 });

@@ -36,6 +36,9 @@ fn block_of(alloc: Global, tag: u8, object: &[u8], scalars: &[u8]) -> Result<Vec
 // What the bytes of a block mean.
 fn meaning(alloc: Global, bytes: &[u8]) -> Result<ObjectLists, ObjectFault> {
     let mut lists = ObjectLists::new(alloc);
+    if bytes.len() > 1_000_000 {
+        return Err(ObjectFault::OutOfMemory);
+    }
     let Ok(block) = read_block(alloc, bytes, 0) else {
         return Err(ObjectFault::OutOfMemory);
     };

@@ -1,5 +1,5 @@
 -- A loop over the fields of a message that keeps what counts of them.
-use Rattle.std.proofs.Common.{Bor, ◌≡◌, ℕ, ◌+◌, ◌<◌, ◌^◌, IfSome, subst, leb, cond, true, false, Bool, ◌&&◌, List, [], ◌∷◌, ◌++◌, length, Option, Some, None, Ok, Err, refl, sym, ap, ◌∙◌}
+use Rattle.std.proofs.Common.{Bor, ◌≡◌, ℕ, ◌+◌, ◌<◌, ◌≤◌, ◌^◌, arith, IfSome, subst, leb, cond, true, false, Bool, ◌&&◌, List, [], ◌∷◌, ◌++◌, length, Option, Some, None, Ok, Err, refl, sym, ap, ◌∙◌}
 use Rattle.std.specs.Option.{option_map, option_or}
 use Rattle.std.specs.List.{filter_map, last_or, cons_option}
 use Rattle.std.proofs.lemmas.List.Elements.{filter_map-append}
@@ -142,3 +142,18 @@ or-inside found first before e h k = subst Inside (sym e) (each first before h k
     each : (first before : Option (ℕ × Bor (List ℕ))) → Inside first → Inside before → Inside (option_or first before)
     each None before h k = k
     each (Some x) before h k = h
+
+-- the bytes are at most so many
+abbrev pub AtMost : ℕ → Option (ℕ × Bor (List ℕ)) → Type 0
+AtMost most o = IfSome o (λ raw. length raw.1.now ≤ most)
+
+pub or-few : (found first before : Option (ℕ × Bor (List ℕ))) (most : ℕ) → found ≡ option_or first before → AtMost most first → AtMost most before → AtMost most found
+or-few found first before most e h k = subst (AtMost most) (sym e) (each first before h k)
+  where
+    each : (first before : Option (ℕ × Bor (List ℕ))) → AtMost most first → AtMost most before → AtMost most (option_or first before)
+    each None before h k = k
+    each (Some x) before h k = h
+
+pub held-few : (o : Option (ℕ × Bor (List ℕ))) (held most : ℕ) → AtMost held o → held ≤ most → AtMost most o
+held-few None held most h few = tt
+held-few (Some x) held most h few = omega (arith, h, few)

@@ -38,6 +38,7 @@ pub fn next_blob<H: Host>(alloc: Global, host: &mut H, at: u64) -> Result<Option
         Answers result (next_of at (drop at input)) }
     ensures within { (input : List ℕ) → (H.state host.old).told.input ≡ Some input → (H.state host.old).told.place ≡ Some at →
         IfOk result (λ found. MatchOption found (length input ≤ at) (λ blob. blob.end ≤ length input)) }
+    ensures few { IfOk result (λ found. IfSome found (λ blob. at + length blob.raw ≤ blob.end)) }
     ensures moved { IfOk result (λ found. (H.state host.new).told ≡ moved (bytes_over at found) (H.state host.old).told) }
     ensures ahead { IfOk result (λ found. IfSome found (λ blob. (at + 4 ≤ blob.end) × (blob.end ≤ 536870912))) }
     ensures raw { IfOk result (λ found. IfSome found (λ blob. blob.raw_at + length blob.raw < 2 ^ 64)) }
@@ -71,6 +72,7 @@ fn after_length<H: Host>(alloc: Global, host: &mut H, at: u64, len: usize) -> Re
     requires place { at ≤ 536870912 }
     requires short { len < 65536 }
     ensures bytes { OfRest (H.state host.old).told (λ rest. AnswersBlob result (framed at len rest)) }
+    ensures few { IfOk result (λ blob. at + length blob.raw ≤ blob.end) }
     ensures moved { IfOk result (λ blob. (H.state host.new).told ≡ moved (blob.end - (at + 4)) (H.state host.old).told) }
     ensures ahead { IfOk result (λ blob. (at + 4 ≤ blob.end) × (blob.end ≤ 536870912)) }
     ensures raw { IfOk result (λ blob. blob.raw_at + length blob.raw < 2 ^ 64) }
@@ -104,6 +106,7 @@ fn after_length<H: Host>(alloc: Global, host: &mut H, at: u64, len: usize) -> Re
 fn after_header<H: Host>(alloc: Global, host: &mut H, head: Head) -> Result<Blob, PbfFault>
     requires body { head.body_at < 2 ^ 32 }
     ensures bytes { OfRest (H.state host.old).told (λ rest. AnswersBlob result (sized head rest)) }
+    ensures few { IfOk result (λ blob. length blob.raw ≤ head.size) }
     ensures moved { IfOk result (λ blob. (H.state host.new).told ≡ moved head.size (H.state host.old).told) }
     ensures end { IfOk result (λ blob. (blob.end ≡ head.body_at + head.size) × (blob.end ≤ 536870912)) }
     ensures raw { IfOk result (λ blob. blob.raw_at + length blob.raw < 2 ^ 64) }
@@ -129,6 +132,7 @@ fn any_blob<H: Host>(alloc: Global, host: &mut H, head: Head) -> Result<Blob, Pb
     requires size { head.size ≤ 33554496 }
     requires end { head.body_at + head.size ≤ 536870912 }
     ensures bytes { OfRest (H.state host.old).told (λ rest. AnswersBlob result (bodied head rest)) }
+    ensures few { IfOk result (λ blob. length blob.raw ≤ head.size) }
     ensures moved { IfOk result (λ blob. (H.state host.new).told ≡ moved head.size (H.state host.old).told) }
     ensures end { IfOk result (λ blob. blob.end ≡ head.body_at + head.size) }
     ensures raw { IfOk result (λ blob. blob.raw_at + length blob.raw < 2 ^ 64) }
@@ -149,6 +153,7 @@ fn other_blob<H: Host>(alloc: Global, host: &mut H, head: Head) -> Result<Blob, 
     requires end { head.body_at + head.size ≤ 536870912 }
     requires other { is_known head.kind ≡ false }
     ensures bytes { OfRest (H.state host.old).told (λ rest. AnswersBlob result (bodied head rest)) }
+    ensures few { IfOk result (λ blob. length blob.raw ≤ head.size) }
     ensures moved { IfOk result (λ blob. (H.state host.new).told ≡ moved head.size (H.state host.old).told) }
     ensures end { IfOk result (λ blob. blob.end ≡ head.body_at + head.size) }
     ensures raw { IfOk result (λ blob. blob.raw_at + length blob.raw < 2 ^ 64) }
@@ -178,6 +183,7 @@ fn known_blob<H: Host>(alloc: Global, host: &mut H, head: Head) -> Result<Blob, 
     requires end { head.body_at + head.size ≤ 536870912 }
     requires known { is_known head.kind ≡ true }
     ensures bytes { OfRest (H.state host.old).told (λ rest. AnswersBlob result (bodied head rest)) }
+    ensures few { IfOk result (λ blob. length blob.raw ≤ head.size) }
     ensures moved { IfOk result (λ blob. (H.state host.new).told ≡ moved head.size (H.state host.old).told) }
     ensures end { IfOk result (λ blob. blob.end ≡ head.body_at + head.size) }
     ensures raw { IfOk result (λ blob. blob.raw_at + length blob.raw < 2 ^ 64) }
@@ -206,6 +212,7 @@ fn after_front<H: Host>(
     requires known { is_known head.kind ≡ true }
     requires front { length front.now ≡ min head.size 6 }
     ensures bytes { OfRest (H.state host.old).told (λ rest. AnswersBlob result (bodied head (front.now ++ rest))) }
+    ensures few { IfOk result (λ blob. length blob.raw ≤ head.size) }
     ensures moved { IfOk result (λ blob. (H.state host.new).told ≡ moved (head.size - length front.now) (H.state host.old).told) }
     ensures end { IfOk result (λ blob. blob.end ≡ head.body_at + head.size) }
     ensures raw { IfOk result (λ blob. blob.raw_at + length blob.raw < 2 ^ 64) }
@@ -235,6 +242,7 @@ fn payload<H: Host>(
     requires known { is_known head.kind ≡ true }
     ensures bytes { (front : List ℕ) → length front + left ≡ head.size → ShowsPayload left front start.now →
         OfRest (H.state host.old).told (λ rest. AnswersBlob result (bodied head (front ++ rest))) }
+    ensures few { IfOk result (λ blob. length blob.raw ≤ head.size) }
     ensures moved { IfOk result (λ blob. (H.state host.new).told ≡ moved left (H.state host.old).told) }
     ensures end { IfOk result (λ blob. blob.end ≡ head.body_at + head.size) }
     ensures raw { IfOk result (λ blob. blob.raw_at + length blob.raw < 2 ^ 64) }
@@ -271,6 +279,7 @@ fn walked_blob<H: Host>(
     requires end { head.body_at + head.size ≤ 536870912 }
     requires known { is_known head.kind ≡ true }
     ensures bytes { OfRest (H.state host.old).told (λ rest. AnswersBlob result (bodied head (front.now ++ rest))) }
+    ensures few { IfOk result (λ blob. length blob.raw ≤ head.size) }
     ensures moved { IfOk result (λ blob. (H.state host.new).told ≡ moved left (H.state host.old).told) }
     ensures end { IfOk result (λ blob. blob.end ≡ head.body_at + head.size) }
     ensures raw { IfOk result (λ blob. blob.raw_at + length blob.raw < 2 ^ 64) }
@@ -288,9 +297,11 @@ fn walked_blob<H: Host>(
 /// The blob of a known type that has these bytes: its payload is copied out of them.
 fn blob_with_payload(alloc: Global, head: Head, body: &[u8]) -> Result<Blob, PbfFault>
     requires place { head.body_at + length body.now ≤ 536870912 }
+    requires size { length body.now ≤ head.size }
     requires end { head.body_at + head.size ≤ 536870912 }
     requires known { is_known head.kind ≡ true }
     ensures bytes { AnswersBlob result (paid head (payload_of head.body_at body.now)) }
+    ensures few { IfOk result (λ blob. length blob.raw ≤ head.size) }
     ensures end { IfOk result (λ blob. blob.end ≡ head.body_at + head.size) }
     ensures raw { IfOk result (λ blob. blob.raw_at + length blob.raw < 2 ^ 64) }
     ensures no_read { IfErr result (λ fault. is_read fault ≡ false) }

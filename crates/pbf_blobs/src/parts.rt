@@ -50,6 +50,7 @@ pub fn read_payload(blob: &[u8], at: u64) -> Result<(u64, &[u8]), PbfFault>
     requires { at + length blob.now < 2 ^ 64 }
     ensures found { IfOk result (λ found. payload_of at blob.now ≡ Ok (found.0, found.1.now)) }
     ensures inside { IfOk result (λ found. found.0 + length found.1.now < 2 ^ 64) }
+    ensures few { IfOk result (λ found. length found.1.now ≤ length blob.now) }
     ensures fault { IfErr result (λ fault. payload_of at blob.now ≡ Err fault) }
     ensures no_read { IfErr result (λ fault. is_read fault ≡ false) }
 {

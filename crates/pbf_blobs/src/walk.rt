@@ -1,6 +1,6 @@
 //! What counts among the fields of a message: of a field that comes more than once, the last.
 
-ghost use Rattle.std.specs.Prelude.{◌≡◌, ◌+◌, ◌<◌, ◌^◌, length, IfOk, IfErr, IfSome, Err};
+ghost use Rattle.std.specs.Prelude.{◌≡◌, ◌+◌, ◌<◌, ◌≤◌, ◌^◌, length, IfOk, IfErr, IfSome, Err};
 ghost use Rattle.std.specs.Option.{option_map};
 ghost use Rattle.wire_read.specs.Fields.{seen, content_of, inner_length, fields_of};
 ghost use Rattle.pbf_blobs.specs.Messages.{field_bytes, field_varint};
@@ -13,6 +13,7 @@ fn field_bytes<'a>(number: u32, field: &Field<'a>) -> Option<(u64, &'a [u8])>
     ensures bytes { option_map (λ bytes. (bytes.0, bytes.1.now)) result ≡ field_bytes number (seen field.now) }
     ensures inside { field.now.body_at + inner_length (content_of field.now.body) < 2 ^ 64 →
         IfSome result (λ bytes. bytes.0 + length bytes.1.now < 2 ^ 64) }
+    ensures held { IfSome result (λ bytes. length bytes.1.now ≤ inner_length (content_of field.now.body)) }
 {
     match field.body {
         Body::Bytes(bytes) if field.number == number => Some((field.body_at, bytes)),
@@ -73,6 +74,7 @@ pub fn payload_fields(
     requires { at + length blob.now < 2 ^ 64 }
     ensures found { IfOk result (λ found. FindsPayload at blob.now found.0 (option_map (λ bytes. (bytes.0, bytes.1.now)) found.1)) }
     ensures inside { IfOk result (λ found. IfSome found.1 (λ raw. raw.0 + length raw.1.now < 2 ^ 64)) }
+    ensures few { IfOk result (λ found. IfSome found.1 (λ raw. length raw.1.now ≤ length blob.now)) }
     ensures fault { IfErr result (λ fault. fields_of at blob.now ≡ Err fault) }
 {
     let mut compressed = None;

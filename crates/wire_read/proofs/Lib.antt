@@ -7,3 +7,4 @@ pub mod MessageLaw
 pub mod FieldsSoFar
 pub mod Packed
 pub mod ReadSoFar
+pub mod FieldWeights

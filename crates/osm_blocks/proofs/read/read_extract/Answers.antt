@@ -12,6 +12,7 @@ loop-end-preserved g c =
     let state = g.H.Host.state in
     record {
       leads = Leads-next (state c.args.host.now) (state c.loop-end.host) (state c.add_next.new.host) c.loop-end.at c.in-Ok-Some.end (seen c.loop-end.draft) (seen c.add_next.new.draft) l.leads step.ahead.0 step.moved step.frame step.bytes step.within;
+      room = step.room;
       low = step.ahead.1;
       placed = step.draft l.placed;
       no_fault = step.faults ∙ l.no_fault;

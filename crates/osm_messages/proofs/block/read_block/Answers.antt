@@ -3,6 +3,7 @@ use Rattle.osm_messages.proofs.Exits.{Answers-exit, Answers-wire}
 use Rattle.osm_messages.proofs.Walks.{Going-ok, Going-stop, Going-fault, Going-end}
 use Rattle.osm_messages.proofs.Begun.{block-begun}
 use Rattle.osm_messages.proofs.Kept.{all_spelled}
+use Rattle.osm_messages.proofs.Weights.{block_in-few}
 use Rattle.osm_messages.proofs.block.read_block.Goals as goal
 
 pub loop-field-init : goal.loop-field-init
@@ -32,3 +33,7 @@ returns-clause-block c = Going-end block_step (λ r. r) _ _ _ _ c.loop-field.inv
 pub returns-clause-spelled : goal.returns-clause-spelled
 returns-clause-spelled c =
     all_spelled _ _ _ (Going-end block_step (λ r. r) _ _ _ _ c.loop-field.invariant c.in-None.ensures.steps)
+
+pub returns-clause-few : goal.returns-clause-few
+returns-clause-few c =
+    block_in-few _ _ _ (Going-end block_step (λ r. r) _ _ _ _ c.loop-field.invariant c.in-None.ensures.steps)

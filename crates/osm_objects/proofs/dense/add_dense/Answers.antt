@@ -1,4 +1,4 @@
-use Rattle.std.proofs.Common.{◌≡◌, ◌∙◌, sym, length, IsOk, Ok}
+use Rattle.std.proofs.Common.{◌≡◌, ◌∙◌, arith, ap, sym, length, IsOk, Ok}
 use Rattle.osm_messages.specs.Lists.{seen_lists}
 use Rattle.osm_objects.specs.Parts.{as_many}
 use Rattle.osm_objects.specs.Sums.{sums_of}
@@ -36,3 +36,13 @@ returns-clause-nodes c =
     let lons : sums_of c.args.at c.args.lists.now.ninth.items ≡ Ok c.sum_up-3.new.sums.items = rw c.deref-8.ensures.value at c.in_ok-sum_up-3.ensures in
     rw (dense-nodes (table_of c.args.texts.now) c.args.scale c.args.at (seen_lists c.args.lists.now) _ _ _ even_lats even_lons ids lats lons)
     (rw c.deref-9.ensures.value at c.add_nodes.ensures.nodes)
+
+pub add_nodes-requires-clause-places : goal.add_nodes-requires-clause-places
+add_nodes-requires-clause-places c =
+    let ids : sums_of c.args.at c.args.lists.now.first.items ≡ Ok c.sum_up.new.sums.items = rw c.deref-6.ensures.value at c.in_ok-sum_up.ensures in
+    omega (arith, sums-length c.args.at c.args.lists.now.first.items c.sum_up.new.sums.items ids, c.requires.places)
+
+pub add_nodes-requires-clause-room : goal.add_nodes-requires-clause-room
+add_nodes-requires-clause-room c =
+    let same : length c.deref-9.result.now ≡ length c.args.lists.now.tenth.items = ap (λ l. length l) c.deref-9.ensures.value in
+    omega (arith, same, c.requires.room)

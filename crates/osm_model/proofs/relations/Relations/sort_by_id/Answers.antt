@@ -1,12 +1,10 @@
-use Rattle.std.proofs.Common.{length, rules}
-use Rattle.std.proofs.lemmas.List.Sorted.{All-permutation, answers_always}
-use Rattle.osm_model.specs.RelationRows.{IsInside}
-use Rattle.osm_model.proofs.RelationLemmas.{rows_moved, rows_sorted}
+use Rattle.std.proofs.Common.{rules}
+use Rattle.std.proofs.lemmas.List.Sorted.{answers_always}
+use Rattle.osm_model.proofs.RelationLemmas.{rows_moved, rows_sorted, relations_other}
 use Rattle.osm_model.proofs.relations.Relations.sort_by_id.Goals as goal
 
 pub invariant_of-self : goal.invariant_of-self
-invariant_of-self c =
-    All-permutation (IsInside (length c.self.inside.tags) (length c.self.inside.members)) _ _ c.sort_unstable_by_key.ensures.permutation c.self.invariant
+invariant_of-self c = relations_other _ _ _ _ _ c.self.invariant c.sort_unstable_by_key.ensures.permutation
 
 pub returns-clause-permutation : goal.returns-clause-permutation
 returns-clause-permutation c = rows_moved _ _ _ _ _ c.self.view_is c.sort_unstable_by_key.ensures.permutation
