@@ -65,12 +65,14 @@ fn make_file(alloc: Global, side: u64, seed: u64) -> Result<Vec<u8>, AllocError>
     Ok(file)
 }
 
-/// Enough bytes for the file, and not many more.
+/// Enough bytes for the file, and not many more: a node takes 5 bytes in its row's block and 1 or 2 in each of its ways, and
+/// what else a row, a column and a restriction take is below 300 bytes for each step of the side. A seed that draws more
+/// restrictions than any other makes the list grow.
 fn room_of(side: u64) -> usize
     requires { side ≤ 500 }
 {
     let each_node = if side < 64 { 7 } else { 8 };
-    (100 + side * 400 + side * side * each_node) as usize
+    (100 + side * 300 + side * side * each_node) as usize
 }
 
 /// The bytes of the file are those of a file that reads as the grid.

@@ -6,5 +6,10 @@ mod grid_file;
 mod objects;
 mod spelling;
 mod tables;
+mod worked;
 
 pub use grid_file::{can_be_made, make_extract};
+pub use worked::worked_draws;
+
+#[cfg(test)]
+mod tests;
