@@ -3,8 +3,6 @@
 
 mod fields;
 mod laws;
-#[cfg(test)]
-mod tests;
 
 pub use fields::{get, set};
 pub use laws::{set_and_get, word_and_fields};

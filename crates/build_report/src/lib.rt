@@ -4,8 +4,6 @@
 mod law;
 mod listing;
 mod summary;
-#[cfg(test)]
-mod tests;
 mod text;
 
 pub use law::{lists_written_out, reports_written_out};

@@ -5,8 +5,6 @@ mod ask;
 mod command;
 mod law;
 mod rows;
-#[cfg(test)]
-mod tests;
 mod usages;
 mod values;
 

@@ -9,8 +9,6 @@ mod order;
 mod padding;
 mod sets;
 mod starts;
-#[cfg(test)]
-mod tests;
 mod texts;
 mod writes;
 

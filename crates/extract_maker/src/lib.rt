@@ -10,6 +10,3 @@ mod worked;
 
 pub use grid_file::{can_be_made, make_extract};
 pub use worked::worked_draws;
-
-#[cfg(test)]
-mod tests;

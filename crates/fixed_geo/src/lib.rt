@@ -6,8 +6,6 @@ mod lengths;
 mod points;
 mod roots;
 mod shapes;
-#[cfg(test)]
-mod tests;
 
 pub use lengths::{near, one_meridian, same_both_ways, segment_cm, worked_lengths};
 pub use points::Point;

@@ -4,8 +4,6 @@
 
 mod ids;
 mod paths;
-#[cfg(test)]
-mod tests;
 
 pub use ids::{BadId, GraphId, parts_and_value};
 pub use paths::tile_path;

@@ -17,6 +17,3 @@ pub use lists::{HostFiles, Numbers, Paths};
 pub use mem_host::MemHost;
 pub use real_host::RealHost;
 pub use text::Text;
-
-#[cfg(test)]
-mod tests;

@@ -16,8 +16,3 @@ pub use fault::{Counted, ExtractFault, kind_name};
 pub use fault_lines::{extract_fault_lines, fault_lines_kept};
 pub use law::{content_law, reading_law, refusal_law};
 pub use read::read_extract;
-
-#[cfg(test)]
-mod spellings;
-#[cfg(test)]
-mod tests;

@@ -26,6 +26,3 @@ pub use law::block_law;
 pub use lists::NumberLists;
 pub use numbers::read_numbers;
 pub use object::RawObject;
-
-#[cfg(test)]
-mod tests;

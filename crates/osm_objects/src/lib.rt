@@ -23,6 +23,3 @@ pub use fault::ObjectFault;
 pub use fault_lines::object_fault_lines;
 pub use law::object_law;
 pub use objects::{ObjectLists, add_objects};
-
-#[cfg(test)]
-mod tests;

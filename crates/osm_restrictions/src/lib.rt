@@ -12,6 +12,3 @@ mod turn;
 
 pub use listing::turn_rows;
 pub use rows::{SkipReason, Skipped, SkippedRows, TurnRow, TurnRows, Turns, Via};
-
-#[cfg(test)]
-mod tests;

@@ -16,6 +16,3 @@ pub use fault::PbfFault;
 pub use fault_lines::pbf_fault_lines;
 pub use law::framing_law;
 pub use next::next_blob;
-
-#[cfg(test)]
-mod tests;

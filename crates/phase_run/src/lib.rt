@@ -11,6 +11,3 @@ mod workers;
 
 pub use run::run_phase;
 pub use seat_parts::SeatParts;
-
-#[cfg(test)]
-mod tests;

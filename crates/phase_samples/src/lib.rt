@@ -3,8 +3,6 @@
 
 mod fence;
 mod sums;
-#[cfg(test)]
-mod tests;
 
 pub use fence::{Fence, Post};
 pub use sums::{Summand, Sums, summands};

@@ -1,8 +1,6 @@
 //! Roads as runs of segments, and as pieces between junctions.
 #![tactic(auto)]
 
-#[cfg(test)]
-mod comparison;
 mod counts;
 mod courses;
 mod crossings;
@@ -16,16 +14,10 @@ mod node_index;
 mod parts;
 mod pieces;
 mod places;
-#[cfg(test)]
-mod plain;
 mod rows;
 mod rules;
 mod steps;
 mod survey;
-#[cfg(test)]
-mod tagged;
-#[cfg(test)]
-mod tests;
 
 pub use cutting::cut;
 pub use fault_lines::cut_fault_lines;

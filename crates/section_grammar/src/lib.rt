@@ -9,6 +9,3 @@ mod writes;
 pub use fault::SectionFault;
 pub use parts::{cut, four_words, half, place, word};
 pub use writes::{push_half, push_record, push_word, push_zeros};
-
-#[cfg(test)]
-mod tests;

@@ -13,8 +13,6 @@ mod record_sections;
 mod sequence_section;
 mod sequences;
 mod spans;
-#[cfg(test)]
-mod tests;
 mod tile;
 mod write;
 mod write_whole;

@@ -3,7 +3,5 @@
 #![tactic(auto)]
 
 mod grid;
-#[cfg(test)]
-mod tests;
 
 pub use grid::{level_of_class, south_west, tile_holds_place, tile_of, worked_tiles};

@@ -20,6 +20,3 @@ pub use plain::PlainParts;
 pub use refused::Refused;
 pub use state::{Cell, Worker};
 pub use values::{claims_stay, values_follow_marks};
-
-#[cfg(test)]
-mod tests;

@@ -4,8 +4,6 @@
 mod edges;
 mod laws;
 mod nodes;
-#[cfg(test)]
-mod tests;
 
 pub use edges::EdgeRec;
 pub use laws::{edge_law, node_law};

@@ -21,6 +21,3 @@ pub use events::steps_are_events;
 pub use seat::{Closed, Seat, Turn};
 pub use table::TileTable;
 pub use view::{Hand, View};
-
-#[cfg(test)]
-mod tests;

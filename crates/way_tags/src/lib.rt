@@ -19,6 +19,3 @@ pub use modes::{ALL, AUTO, BICYCLE, BUS, PEDESTRIAN, TRUCK, VEHICLES};
 pub use naming::names;
 pub use nodes::{is_barrier, node_access};
 pub use ways::{RoadTags, access_of, class_of, oneway_of, read_road};
-
-#[cfg(test)]
-mod tests;

@@ -16,8 +16,3 @@ pub use fields::{Body, Field, Fields, message_law, read_field};
 pub use numbers::{Varints, packed_numbers_law};
 pub use varint::{read_varint, varint_law};
 pub use zigzag::unzigzag;
-
-#[cfg(test)]
-mod fields_tests;
-#[cfg(test)]
-mod tests;

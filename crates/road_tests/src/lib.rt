@@ -1,0 +1,5 @@
+//! Tests of `road_pieces`: worked rows of pieces and junctions.
+#![tactic(auto)]
+
+#[cfg(test)]
+mod pieces;

@@ -1,0 +1,5 @@
+//! Tests of `osm_blocks`: one extract in many spellings.
+#![tactic(auto)]
+
+#[cfg(test)]
+mod spellings;
