@@ -1,5 +1,5 @@
-use pbf_blobs::{Blob, PbfFault, next_blob};
 use host_port::{Bytes, Host, MemHost, Text};
+use pbf_blobs::{Blob, PbfFault, next_blob};
 use std::alloc::Global;
 use std::test::Fail;
 use wire_read::WireFault;

@@ -3,10 +3,10 @@
 ghost use Rattle.std.specs.Prelude.{◌<◌};
 
 use crate::plain::{plain_junctions, plain_missing, plain_pieces, plain_runs, plain_ways};
-use road_pieces::{NamesView, Piece, PieceView, Pieces, Roads, cut};
 use osm_model::{
     Extract, Names, Nodes, OsmNode, OsmWay, Refs, Relations, Tag, TagText, Tags, Ways,
 };
+use road_pieces::{NamesView, Piece, PieceView, Pieces, Roads, cut};
 use std::alloc::{AllocError, Global};
 use std::test::Fail;
 

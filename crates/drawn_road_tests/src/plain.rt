@@ -1,11 +1,11 @@
 //! The roads of an extract as the definitions say them, computed slowly: each function here is one of theirs. Tests
 //! compare `cut` with it, and so try what the definitions mean; nothing here is promised.
 
-use road_pieces::{Junction, Piece, is_barrier, is_routable, junction_of, names_of};
 use fixed_geo::{Point, Shape, segment_cm};
 use osm_model::{Extract, Nodes, PieceKey, WayView};
+use road_pieces::{Junction, Piece};
 use std::alloc::{AllocError, Global};
-use way_tags::{Dir, access_of, class_of};
+use way_tags::{Dir, access_of, class_of, is_barrier, names, node_access};
 
 /// The junctions of an extract.
 pub(crate) fn plain_junctions(
@@ -17,7 +17,15 @@ pub(crate) fn plain_junctions(
     for i in 0..extract.nodes.len() {
         let node = extract.nodes.at(i);
         if is_junction(extract, &runs, node.id()) {
-            junctions.push(junction_of(&node))?;
+            junctions.push(Junction {
+                osm: node.id(),
+                at: Point {
+                    lat: node.lat(),
+                    lon: node.lon(),
+                },
+                access: node_access(&node.tags()),
+                barrier: is_barrier(&node.tags()),
+            })?;
         }
     }
     Ok(junctions)
@@ -37,7 +45,7 @@ pub(crate) fn plain_pieces(alloc: Global, extract: &Extract) -> Result<Vec<Piece
 pub(crate) fn plain_ways(extract: &Extract) -> u64 {
     let mut count = 0u64;
     for i in 0..extract.ways.len() {
-        if is_routable(extract.ways.at(i).tags()) {
+        if class_of(extract.ways.at(i).tags()).is_some() {
             count = count.saturating_add(1);
         }
     }
@@ -55,7 +63,7 @@ pub(crate) fn plain_missing(extract: &Extract) -> u64 {
     let mut count = 0u64;
     for i in 0..extract.ways.len() {
         let way = extract.ways.at(i);
-        if is_routable(way.tags()) {
+        if class_of(way.tags()).is_some() {
             count = count.saturating_add(missing_in(&extract.nodes, way.refs()));
         }
     }
@@ -100,7 +108,7 @@ fn all_runs(alloc: Global, extract: &Extract) -> Result<Vec<Vec<i64>>, AllocErro
 
 /// The runs of a way.
 fn way_runs(alloc: Global, nodes: &Nodes, way: &WayView<'_>) -> Result<Vec<Vec<i64>>, AllocError> {
-    if is_routable(way.tags()) {
+    if class_of(way.tags()).is_some() {
         runs_of(alloc, nodes, way.refs())
     } else {
         Ok(Vec::new(alloc))
@@ -234,7 +242,7 @@ fn piece_of(
         class: class_of(way.tags()).unwrap_or(7),
         forward: access_of(way.tags(), Dir::Forward),
         backward: access_of(way.tags(), Dir::Backward),
-        names: names_of(alloc, way.tags())?,
+        names: names(alloc, way.tags())?,
     })
 }
 

@@ -1,8 +1,8 @@
 //! The worked rows of the grid; the values are computed by hand.
-use tile_geometry::{level_of_class, south_west, tile_holds_place, tile_of};
 use fixed_geo::Point;
 use graph_id::{GraphId, tile_path};
 use std::test::Fail;
+use tile_geometry::{level_of_class, south_west, tile_holds_place, tile_of};
 
 /// A level, a place, the number of its tile, and the value and the path of that tile's first record.
 const PLACES: [(u32, i32, i32, u32, u64, &str); 13] = [

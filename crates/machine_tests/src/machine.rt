@@ -3,11 +3,11 @@
 
 ghost use Rattle.std.specs.Prelude.{◌<◌, ◌≤◌, ◌^◌};
 
-use tile_machine::{Event, Machine, Refused, claims_stay};
 use slow::Slow;
 use std::alloc::Global;
 use std::process::Abort;
 use std::test::Fail;
+use tile_machine::{Event, Machine, Refused, claims_stay};
 
 mod slow;
 

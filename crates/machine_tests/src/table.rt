@@ -6,11 +6,11 @@ ghost use Rattle.tile_table.specs.Counts.{times_in, pair_times};
 ghost use Rattle.tile_table.specs.declared.view.Hand.{Hand};
 ghost use Rattle.tile_table.specs.Seats.{view, seat_name, IsAt};
 
-use tile_table::{Claim, Seat, TileTable, Unseen, steps_are_events};
 use phase_samples::{Summand, Sums, summands};
 use std::test::Fail;
 use std::thread::join;
 use tile_machine::Phase;
+use tile_table::{Claim, Seat, TileTable, Unseen, steps_are_events};
 
 /// Worker 0 claims a tile and holds its lock. Worker 1 is told so, and sees the tile's part after the lock was given back.
 #[test]

@@ -1,4 +1,7 @@
-use osm_model::{Extract, Member, MemberKind, Members, Names, Nodes, OsmNode, OsmRelation, OsmWay, PieceKey, Refs, Relations, Tag, TagText, Tags, TextTable, Ways, value};
+use osm_model::{
+    Extract, Member, MemberKind, Members, Names, Nodes, OsmNode, OsmRelation, OsmWay, PieceKey,
+    Refs, Relations, Tag, TagText, Tags, TextTable, Ways, value,
+};
 use std::alloc::{AllocError, Global};
 use std::test::Fail;
 

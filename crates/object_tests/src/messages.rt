@@ -1,4 +1,7 @@
-use osm_messages::{MessageFault, NumberLists, ObjectKind, RawBlock, RawObject, read_block, read_features, read_numbers};
+use osm_messages::{
+    MessageFault, NumberLists, ObjectKind, RawBlock, RawObject, read_block, read_features,
+    read_numbers,
+};
 use std::alloc::{AllocError, Global};
 use std::test::Fail;
 use wire_read::WireFault;

@@ -1,6 +1,6 @@
-use osm_objects::{ObjectFault, ObjectLists, add_objects};
 use osm_messages::read_block;
 use osm_model::MemberKind;
+use osm_objects::{ObjectFault, ObjectLists, add_objects};
 use std::alloc::{AllocError, Global};
 use std::test::Fail;
 

@@ -2,9 +2,9 @@
 
 ghost use Rattle.std.specs.Prelude.{◌≡◌, ◌<◌, ◌≤◌, ◌^◌, length};
 
-use phase_run::{SeatParts, run_phase};
 use gates::{Counts, HoldsFirst};
 use host_port::{Gate, NoGate};
+use phase_run::{SeatParts, run_phase};
 use phase_samples::{Sums, summands};
 use plain_phases::{Failing, Meeting};
 use std::alloc::{AllocError, Global};

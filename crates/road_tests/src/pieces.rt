@@ -1,7 +1,7 @@
 //! Roads of small extracts, cut by hand.
 
-use road_pieces::{CutFault, NodeIndex, Roads, cut, list_agrees, turns_agree, walks_agree};
 use osm_model::{Extract, Nodes, OsmNode, OsmWay, Refs, Relations, Tag, TagText, Tags, Ways};
+use road_pieces::{CutFault, Roads, cut, list_agrees, turns_agree, walks_agree};
 use std::alloc::{AllocError, Global};
 use std::test::Fail;
 
@@ -167,113 +167,6 @@ fn barriers(rt: HostRuntime) -> Result<(), Fail> {
             crossings.push((junction.osm, junction.barrier))?;
         }
         assert_eq!(rt; crossings.as_slice(), junctions, "of {value}");
-    }
-    Ok(())
-}
-
-/// The extract of nodes with these ids and nothing else.
-fn with_ids(alloc: Global, ids: &[i64]) -> Result<Option<Extract>, AllocError> {
-    let mut nodes = Nodes::new(alloc);
-    for id in ids {
-        nodes.push(&node(alloc, *id, 0))?;
-    }
-    Ok(Extract::of_lists(nodes, Ways::new(alloc), Relations::new(alloc)))
-}
-
-/// The places of the ids that are sought, each sought with that guess.
-fn places_of(
-    alloc: Global,
-    extract: &Extract,
-    sought: &[i64],
-    guess: usize,
-) -> Result<Vec<Option<usize>>, AllocError> {
-    let nodes = &extract.nodes;
-    let index = NodeIndex::new(alloc, nodes)?;
-    let mut places = Vec::new(alloc);
-    for id in sought {
-        places.push(index.find(nodes, id, guess))?;
-    }
-    Ok(places)
-}
-
-// Ids below the first node, of nodes, between them and above the last.
-#[test]
-fn nodes_by_id(rt: HostRuntime) -> Result<(), Fail> {
-    let alloc = rt.alloc();
-    for (ids, sought, places) in [
-        // no node
-        (
-            [].as_slice(),
-            [i64::MIN, 0, i64::MAX].as_slice(),
-            [None, None, None].as_slice(),
-        ),
-        // one
-        (
-            [5].as_slice(),
-            [i64::MIN, 4, 5, 6, i64::MAX].as_slice(),
-            [None, None, Some(0), None, None].as_slice(),
-        ),
-        // no gaps
-        (
-            [1, 2, 3, 4].as_slice(),
-            [-1, 0, 1, 2, 3, 4, 5, 6].as_slice(),
-            [None, None, Some(0), Some(1), Some(2), Some(3), None, None].as_slice(),
-        ),
-        // nodes side by side in one bucket, and one far off
-        (
-            [10, 11, 12, 1_000].as_slice(),
-            [9, 10, 11, 12, 13, 500, 999, 1_000, 1_001].as_slice(),
-            [
-                None,
-                Some(0),
-                Some(1),
-                Some(2),
-                None,
-                None,
-                None,
-                Some(3),
-                None,
-            ]
-            .as_slice(),
-        ),
-        // ids below 0
-        (
-            [-700, -3, 0, 4].as_slice(),
-            [-1_404, -701, -700, -699, -4, -3, 0, 4, 5].as_slice(),
-            [
-                None,
-                None,
-                Some(0),
-                None,
-                None,
-                Some(1),
-                Some(2),
-                Some(3),
-                None,
-            ]
-            .as_slice(),
-        ),
-        // all ids that there are, from end to end
-        (
-            [i64::MIN, i64::MAX].as_slice(),
-            [i64::MIN, i64::MIN + 1, -1, 0, i64::MAX - 1, i64::MAX].as_slice(),
-            [Some(0), None, None, None, None, Some(1)].as_slice(),
-        ),
-        (
-            [i64::MIN, -1, 0, i64::MAX].as_slice(),
-            [i64::MIN, -2, -1, 0, 1, i64::MAX - 1, i64::MAX].as_slice(),
-            [Some(0), None, Some(1), Some(2), None, None, Some(3)].as_slice(),
-        ),
-    ] {
-        let extract = with_ids(alloc, ids)?.ok_or("no extract")?;
-        for guess in [0, 2, 4] {
-            let found = places_of(alloc, &extract, sought, guess)?;
-            assert_eq!(rt;
-                found.as_slice(),
-                places,
-                "in {ids:?}, with the guess {guess}"
-            );
-        }
     }
     Ok(())
 }

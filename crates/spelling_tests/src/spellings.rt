@@ -3,8 +3,8 @@
 //! Node 1 at latitude 3 and longitude -4, node 2 at 5 and 6 with `barrier=gate`; way 7 over 1, 2, 1 with
 //! `highway=residential`; relation 9 of node 1 and of way 7 in the role `gate`, with `type=route`.
 
-use osm_blocks::read_extract;
 use host_port::{Bytes, Host, MemHost, Text};
+use osm_blocks::read_extract;
 use osm_model::{Extract, MemberKind, MembersView};
 use std::alloc::{AllocError, Global};
 use std::test::Fail;

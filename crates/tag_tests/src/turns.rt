@@ -1,7 +1,7 @@
-use osm_restrictions::{SkipReason, TurnRow, Via, turn_rows};
 use osm_model::{
     Extract, Member, MemberKind, Members, Nodes, OsmRelation, Relations, Tag, TagText, Tags, Ways,
 };
+use osm_restrictions::{SkipReason, TurnRow, Via, turn_rows};
 use std::alloc::{AllocError, Global};
 use std::test::Fail;
 

@@ -1,7 +1,10 @@
-use way_tags::{ALL, AUTO, BICYCLE, BUS, Dir, Oneway, PEDESTRIAN, RoadTags, TRUCK, VEHICLES, access_of, class_of, is_barrier, names, node_access, oneway_of, read_road};
 use osm_model::{OsmWay, Refs, Tag, TagText, Tags, Ways};
 use std::alloc::{AllocError, Global};
 use std::test::Fail;
+use way_tags::{
+    ALL, AUTO, BICYCLE, BUS, Dir, Oneway, PEDESTRIAN, RoadTags, TRUCK, VEHICLES, access_of,
+    class_of, is_barrier, names, node_access, oneway_of, read_road,
+};
 
 /// One way with these tags.
 fn way_with(alloc: Global, pairs: &[(&str, &str)]) -> Result<Ways, AllocError> {

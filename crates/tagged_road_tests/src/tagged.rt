@@ -1,7 +1,7 @@
 //! Roads of small extracts with tags, cut by hand: classes, access, names, barriers.
 
-use road_pieces::{Roads, cut};
 use osm_model::{Extract, Nodes, OsmNode, OsmWay, Refs, Relations, Tag, TagText, Tags, Ways};
+use road_pieces::{Roads, cut};
 use std::alloc::{AllocError, Global};
 use std::test::Fail;
 

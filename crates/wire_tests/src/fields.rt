@@ -1,9 +1,9 @@
 ghost use Rattle.std.specs.Prelude.{◌≡◌, ◌+◌, ◌<◌, ◌^◌, length, map, IfOk};
 ghost use Rattle.wire_read.specs.Fields.{seen, message_of};
 
-use wire_read::{Body, Field, Fields, WireFault};
 use std::alloc::{AllocError, Global};
 use std::test::Fail;
+use wire_read::{Body, Field, Fields, WireFault};
 
 // The fields before the end or the first fault, and the fault.
 fn fields_of(

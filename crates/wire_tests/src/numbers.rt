@@ -1,9 +1,9 @@
 ghost use Rattle.std.specs.Prelude.{◌≡◌, ◌+◌, ◌<◌, ◌^◌, length, IfOk, IfSome, None};
 ghost use Rattle.wire_read.specs.Numbers.{SpellsNumbers, BreaksNumbers};
 
-use wire_read::{Varints, WireFault, read_varint, unzigzag};
 use std::alloc::{AllocError, Global};
 use std::test::Fail;
+use wire_read::{Varints, WireFault, read_varint, unzigzag};
 
 const ELEVEN: [u8; 11] = [0x80; 11];
 

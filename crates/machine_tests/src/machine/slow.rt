@@ -1,10 +1,10 @@
 //! The table of events once more, as a plain slow program over maps and sets: a hand is looked up among all locks, and a
 //! worker lives where it has an end.
 
-use tile_machine::{Event, Refused};
 use std::alloc::{AllocError, Global};
 use std::collections::{BTreeMap, BTreeSet};
 use std::test::Fail;
+use tile_machine::{Event, Refused};
 
 #[derive(Drop)]
 pub struct Slow {

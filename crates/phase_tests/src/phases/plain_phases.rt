@@ -2,7 +2,7 @@
 
 ghost use Rattle.std.specs.Prelude.{⊤, refl};
 
-use phase_run::is_set_soon;
+use super::gates::is_set_soon;
 use std::alloc::{AllocError, Global};
 use std::sync::atomic::{AtomicBool, Ordering};
 use tile_machine::{PartFault, Parts, Phase};
