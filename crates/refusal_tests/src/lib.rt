@@ -5,3 +5,5 @@
 mod fault_orders;
 #[cfg(test)]
 mod faults;
+#[cfg(test)]
+mod too_large;
