@@ -10,7 +10,7 @@ use Rattle.edge_info.specs.declared.infos.Info.{Info}
 use Rattle.edge_info.specs.Entries.{info_bytes, infos_bytes, key_rises, InfoGood}
 use Rattle.edge_info.specs.EntryReading.{bad_entry, key_in, key_at, point_in, is_place, point_at, name_at, counted_at, entry_at, entries_at}
 use Rattle.edge_info.specs.Checks.{EntryFails}
-use Rattle.edge_info.proofs.Failing.{OnlyFails, only_bind, only_test, only_many, says, all_fails, all_fails_again}
+use Rattle.section_grammar.proofs.Failing.{OnlyFails, only_bind, only_test, only_many, says, all_fails, all_fails_again}
 use Rattle.edge_info.proofs.EntryLaws.{entry_reader, entry_some}
 
 point_says : (bad : FailedCheck) (before : List Point) (rest : List ℕ) → OnlyFails bad (point_at bad before rest)

@@ -12,7 +12,7 @@ use Rattle.section_grammar.proofs.WordLaws.{word_length}
 use Rattle.section_grammar.proofs.Steps.{bind_ok, ok_is}
 use Rattle.section_grammar.proofs.Sections.{section_of, filling_of}
 use Rattle.edge_info.specs.declared.infos.Info.{Info}
-use Rattle.edge_info.specs.Entries.{key_bytes, point_bytes, counted_bytes, info_bytes, infos_bytes, InfoGood, AreInfos, IsSized}
+use Rattle.edge_info.specs.Entries.{key_bytes, point_bytes, counted_bytes, info_bytes, infos_bytes, InfoPasses, InfoGood, AreInfos}
 use Rattle.edge_info.specs.EntryReading.{bad_entry, key_at, point_at, name_at, counted_at, entry_at, entries_at}
 use Rattle.edge_info.proofs.EntryParts.{NameGood, point_reader, name_reader, key_takes, key_again, counted_takes, counted_again}
 
@@ -53,13 +53,9 @@ entry_takes end count before rest x after fits e =
     let fits2 = IsByteList-rest a.0.1 (counted_bytes point_bytes b.0.0) b.0.1 fits1 points.3 in
     let names = counted_takes bad 0 (name_at bad count) half_bytes (NameGood count) (name_section bad count) b.0.1 n.0.0 n.0.1 fits2 n.1 in
     let good : InfoGood count before (record { key = a.0.0; shape = b.0.0; texts = n.0.0 }) = record {
-      key = key.0;
-      rises = key.1;
-      two_points = points.0;
+      passes = record { key = key.0; rises = key.1; two_points = points.0; places = all_of IsPlace [] b.0.0 points.2; names = all_of (λ name. (name < count) × (name < 2 ^ 32)) [] n.0.0 names.2 };
       few_points = points.1;
-      places = all_of IsPlace [] b.0.0 points.2;
       few_names = names.1;
-      names = all_of (λ name. (name < count) × (name < 2 ^ 32)) [] n.0.0 names.2;
     } in
     let back : rest ≡ (key_bytes a.0.0 ++ (counted_bytes point_bytes b.0.0 ++ counted_bytes half_bytes n.0.0)) ++ n.0.1 =
     key.2 ∙ ap (λ t. key_bytes a.0.0 ++ t) (points.3 ∙ ap (λ t. counted_bytes point_bytes b.0.0 ++ t) names.3)
@@ -82,9 +78,9 @@ entry_again end count before x rest good =
     let bytes = (key ++ (points ++ names)) ++ rest in
     let grouped : bytes ≡ key ++ (points ++ (names ++ rest)) = three key points names rest in
     let bad = bad_entry end bytes in
-    let e0 : key_at bad before bytes ≡ Ok (x.key, points ++ (names ++ rest)) = ap (key_at bad before) grouped ∙ key_again bad before x.key (points ++ (names ++ rest)) good.key good.rises in
-    let e1 = counted_again bad 2 (point_at bad) point_bytes (λ before p. IsPlace p) (point_section bad) x.shape (names ++ rest) good.two_points good.few_points (of_all IsPlace [] x.shape good.places) in
-    let e2 = counted_again bad 0 (name_at bad count) half_bytes (NameGood count) (name_section bad count) x.texts rest (omega arith) good.few_names (of_all (λ name. (name < count) × (name < 2 ^ 32)) [] x.texts good.names) in
+    let e0 : key_at bad before bytes ≡ Ok (x.key, points ++ (names ++ rest)) = ap (key_at bad before) grouped ∙ key_again bad before x.key (points ++ (names ++ rest)) good.passes.key good.passes.rises in
+    let e1 = counted_again bad 2 (point_at bad) point_bytes (λ before p. IsPlace p) (point_section bad) x.shape (names ++ rest) good.passes.two_points good.few_points (of_all IsPlace [] x.shape good.passes.places) in
+    let e2 = counted_again bad 0 (name_at bad count) half_bytes (NameGood count) (name_section bad count) x.texts rest (omega arith) good.few_names (of_all (λ name. (name < count) × (name < 2 ^ 32)) [] x.texts good.passes.names) in
     chained end count before bytes x (points ++ (names ++ rest)) (names ++ rest) rest e0 e1 e2
 
 pub entry_reader : (end count : ℕ) → IsReader (entry_at end count) info_bytes (InfoGood count)
@@ -109,11 +105,3 @@ entries_found end count section infos fits e = (entry_filling end count).filled 
 pub entries_again : (end count : ℕ) (infos : List Info) → AreInfos count infos → entries_at end count (infos_bytes infos) ≡ Ok infos
 unfolding entries_at
 entries_again end count infos good = (entry_filling end count).refilled (length (infos_bytes infos)) infos good (omega arith)
-
-sized_at : (count : ℕ) (before infos : List Info) → AllGood (InfoGood count) before infos → (k : ℕ) (d : Info) → k < length infos → IsSized (get_or infos k d)
-sized_at count before [] h k d lt = absurd (omega arith)
-sized_at count before (x ∷ xs) h zero d lt = (h.0.few_points, h.0.few_names)
-sized_at count before (x ∷ xs) h (suc k) d lt = sized_at count (before ++ x ∷ []) xs h.1 k d (omega arith)
-
-pub infos_sized : (count : ℕ) (infos : List Info) → AreInfos count infos → All IsSized infos
-infos_sized count infos h = λ k d lt. sized_at count [] infos h k d lt

@@ -9,7 +9,7 @@ mod TextLaws
 mod InfoLaws
 mod StartLaws
 mod RowLaws
-mod Failing
 mod EntryFailing
 mod PaddingFailing
 mod TextFailing
+mod Bounds

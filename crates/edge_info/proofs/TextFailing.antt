@@ -9,7 +9,7 @@ use Rattle.section_grammar.proofs.ByteLists.{IsByteList-rest}
 use Rattle.edge_info.specs.Texts.{text_bytes, texts_bytes, first_place, TextGood}
 use Rattle.edge_info.specs.TextReading.{has_text, text_in, after_text, texts_there, any_below, out_of_order, is_new_text, bad_text, text_at, all_named, texts_at}
 use Rattle.edge_info.specs.Checks.{IsInPlace, TextFails}
-use Rattle.edge_info.proofs.Failing.{OnlyFails, only_test, says, many_fails, many_fails_again}
+use Rattle.section_grammar.proofs.Failing.{OnlyFails, only_test, says, many_fails, many_fails_again}
 use Rattle.edge_info.proofs.TextLaws.{InOrder, text_reader, text_section, none_below, all_above, second_of, all_good, orders, with_orders}
 
 text_says : (end : ℕ) (names : List ℕ) (there : ℕ) (before : List (List ℕ)) (rest : List ℕ) → OnlyFails (bad_text end rest) (text_at end names there before rest)

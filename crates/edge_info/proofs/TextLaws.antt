@@ -47,7 +47,7 @@ text_takes end names there before rest x after fits e =
     ∙ ap (λ u. half_bytes (length t) ++ u) (sym (take-append-drop n (drop 4 rest)))
     ∙ sym (append_assoc (half_bytes (length t)) t (after_text rest)) in
     let good : InOrder names there before t = record {
-      good = record { some = ltb-true _ _ spelled.0; short = omega (arith, len, half_below rest fits); utf8 = spelled.1; new = not_true (list_any (λ s. bytes_eq s t) before) fresh.1 };
+      good = record { passes = record { some = ltb-true _ _ spelled.0; utf8 = spelled.1; new = not_true (list_any (λ s. bytes_eq s t) before) fresh.1 }; short = omega (arith, len, half_below rest fits) };
       order = not_true late tests.1;
     } in
     subst (λ (p : List ℕ × List ℕ). InOrder names there before p.0 × (rest ≡ (half_bytes (length p.0) ++ p.0) ++ p.1)) (ok_is {F = FailedCheck} (t, after_text rest) (x, after) b.1) (good, back)
@@ -69,7 +69,7 @@ text_again : (end : ℕ) (names : List ℕ) (there : ℕ) (before : List (List �
 text_again end names there before x rest good =
     let f = text_front x rest good.good.short in
     let bytes = text_bytes x ++ rest in
-    let one = is_fine end names there before bytes f.0 (subst (λ t. 0 < length t) (sym f.1) good.good.some) (ap is_utf8 f.1 ∙ good.good.utf8) (ap (λ t. list_any (λ s. bytes_eq s t) before) f.1 ∙ good.good.new) good.order in
+    let one = is_fine end names there before bytes f.0 (subst (λ t. 0 < length t) (sym f.1) good.good.passes.some) (ap is_utf8 f.1 ∙ good.good.passes.utf8) (ap (λ t. list_any (λ s. bytes_eq s t) before) f.1 ∙ good.good.passes.new) good.order in
     one ∙ rw (f.1, f.2) refl
 
 pub text_reader : (end : ℕ) (names : List ℕ) (there : ℕ) → IsReader (text_at end names there) text_bytes (InOrder names there)
@@ -191,10 +191,12 @@ texts_found end names count section texts fits e =
     let named : (i : ℕ) → i < length a.0.0 → first_place i names < length names = λ i lt. each_named names 0 count n.0 i (omega arith) (omega (arith, lt, found.2)) in
     let are : AreTexts names a.0.0 = record {
       each = all_good names there [] a.0.0 found.0;
-      named = named;
-      ordered = λ i j lt below.
-          let o : out_of_order names there i ≡ false = (let k : 0 + i ≡ i = omega arith in ap (out_of_order names there) (sym k) ∙ orders names there [] a.0.0 found.0 i (omega (arith, lt, below))) in
-          ordered_at names there i (named i (omega (arith, lt, below))) o j lt (omega (arith, below, found.2, whole));
+      order = record {
+        named = named;
+        ordered = λ i j lt below.
+            let o : out_of_order names there i ≡ false = (let k : 0 + i ≡ i = omega arith in ap (out_of_order names there) (sym k) ∙ orders names there [] a.0.0 found.0 i (omega (arith, lt, below))) in
+            ordered_at names there i (named i (omega (arith, lt, below))) o j lt (omega (arith, below, found.2, whole));
+      };
     } in
     let back : section ≡ texts_bytes a.0.0 = found.1 ∙ ap (λ t. texts_bytes a.0.0 ++ t) none ∙ append-nil (texts_bytes a.0.0) in
     subst (λ (ts : List (List ℕ)). AreTexts names ts × (section ≡ texts_bytes ts) × (length ts ≡ count)) same (are, back, found.2)
@@ -218,14 +220,6 @@ texts_again end names texts are =
     let bytes = texts_bytes texts in
     let nil : bytes ++ [] ≡ bytes = append-nil bytes in
     let there : texts_there n bytes ≡ n = ap (texts_there n) (sym nil) ∙ all_there [] texts [] are.each in
-    let each : AllGood (InOrder names n) [] texts = with_orders names n [] texts are.each (λ i lt. let k : 0 + i ≡ i = omega arith in ap (out_of_order names n) k ∙ in_order names n i (λ j l b. are.ordered i j l b)) in
+    let each : AllGood (InOrder names n) [] texts = with_orders names n [] texts are.each (λ i lt. let k : 0 + i ≡ i = omega arith in ap (out_of_order names n) k ∙ in_order names n i (λ j l b. are.order.ordered i j l b)) in
     let many : read_many (text_at end names n) n [] bytes ≡ Ok (texts, []) = ap (λ t. read_many (text_at end names n) n [] t) (sym nil) ∙ (text_section end names n).spelled texts [] each in
-    read_so end names n n bytes texts there many (all_named_so names 0 n (λ i le lt. are.named i (omega (arith, lt))))
-
-short_at : (before texts : List (List ℕ)) → AllGood TextGood before texts → (k : ℕ) (d : List ℕ) → k < length texts → length (get_or texts k d) < 2 ^ 32
-short_at before [] h k d lt = absurd (omega arith)
-short_at before (x ∷ xs) h zero d lt = h.0.short
-short_at before (x ∷ xs) h (suc k) d lt = short_at (before ++ x ∷ []) xs h.1 k d (omega arith)
-
-pub texts_sized : (names : List ℕ) (texts : List (List ℕ)) → AreTexts names texts → All (λ text. length text < 2 ^ 32) texts
-texts_sized names texts are = λ k d lt. short_at [] texts are.each k d lt
+    read_so end names n n bytes texts there many (all_named_so names 0 n (λ i le lt. are.order.named i (omega (arith, lt))))

@@ -50,22 +50,26 @@ pub record KeyFits (key : PieceKey) : Type 0 where
   pub piece : key.piece < 2 ^ 32
 
 -- an entry behind these: keys rise, it has two or more points, each a place, and each name is a text's place
-pub record InfoGood (count : ℕ) (before : List Info) (info : Info) : Type 0 where
+pub record InfoPasses (count : ℕ) (before : List Info) (info : Info) : Type 0 where
   pub key : KeyFits info.key
   pub rises : key_rises before info.key ≡ true
   pub two_points : 2 ≤ length info.shape
-  pub few_points : length info.shape < 2 ^ 32
   pub places : All IsPlace info.shape
-  pub few_names : length info.texts < 2 ^ 32
   pub names : All (λ name. (name < count) × (name < 2 ^ 32)) info.texts
 
--- entries that stand before so many texts
+-- such an entry has a spelling where its numbers of points and of names fit four bytes
+pub record InfoGood (count : ℕ) (before : List Info) (info : Info) : Type 0 where
+  pub passes : InfoPasses count before info
+  pub few_points : length info.shape < 2 ^ 32
+  pub few_names : length info.texts < 2 ^ 32
+
+-- entries that stand before so many texts, however long
+abbrev pub InfosPass : ℕ → List Info → Type 0
+InfosPass count infos = AllGood (InfoPasses count) [] infos
+
+-- entries that stand before so many texts, and have a spelling
 abbrev pub AreInfos : ℕ → List Info → Type 0
 AreInfos count infos = AllGood (InfoGood count) [] infos
-
--- their numbers of points and of names fit four bytes
-abbrev pub IsSized : Info → Type 0
-IsSized info = (length info.shape < 2 ^ 32) × (length info.texts < 2 ^ 32)
 
 -- ---- what follows from the entries
 

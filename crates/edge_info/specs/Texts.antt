@@ -18,15 +18,27 @@ first_place i [] = 0
 first_place i (n ∷ ns) = if nat_eq n i then 0 else suc (first_place i ns)
 
 -- a text behind these: not empty, UTF-8, and none of them
-pub record TextGood (before : List (List ℕ)) (text : List ℕ) : Type 0 where
+pub record TextPasses (before : List (List ℕ)) (text : List ℕ) : Type 0 where
   pub some : 0 < length text
-  pub short : length text < 2 ^ 32
   pub utf8 : is_utf8 text ≡ true
   pub new : list_any (λ t. bytes_eq t text) before ≡ false
 
--- The texts of entries with these names: each stands once, each is named, and they are in the order in which they are
--- first named.
-pub record AreTexts (names : List ℕ) (texts : List (List ℕ)) : Type 0 where
-  pub each : AllGood TextGood [] texts
+-- such a text has a spelling where its length fits four bytes
+pub record TextGood (before : List (List ℕ)) (text : List ℕ) : Type 0 where
+  pub passes : TextPasses before text
+  pub short : length text < 2 ^ 32
+
+-- texts of entries with these names: each is named, and they are in the order in which they are first named
+pub record AreFirstNamed (names : List ℕ) (texts : List (List ℕ)) : Type 0 where
   pub named : (i : ℕ) → i < length texts → first_place i names < length names
   pub ordered : (i j : ℕ) → i < j → j < length texts → first_place i names < first_place j names
+
+-- the texts of entries with these names, each of which stands once, however long
+pub record TextsPass (names : List ℕ) (texts : List (List ℕ)) : Type 0 where
+  pub each : AllGood TextPasses [] texts
+  pub order : AreFirstNamed names texts
+
+-- the texts of entries with these names, which have a spelling
+pub record AreTexts (names : List ℕ) (texts : List (List ℕ)) : Type 0 where
+  pub each : AllGood TextGood [] texts
+  pub order : AreFirstNamed names texts

@@ -1,23 +1,26 @@
 //! What is read was written so, and what was written is read again.
-ghost use Rattle.std.specs.Prelude.{◌≡◌, ◌+◌, ◌-◌, ◌<◌, ◌≤◌, ◌^◌, ℕ, List, Ok, Err, length, All, replicate};
+ghost use Rattle.std.specs.Prelude.{◌≡◌, ◌+◌, ◌-◌, ◌<◌, ◌≤◌, ◌^◌, ℕ, List, Ok, Err, length, replicate};
 ghost use Rattle.section_grammar.specs.WordBytes.{IsByteList};
 ghost use Rattle.section_grammar.specs.Answers.{FailedCheck, Check};
 ghost use Rattle.edge_info.specs.declared.infos.Info.{Info};
 ghost use Rattle.edge_info.specs.Checks.{EntryFails, TextFails, PaddingFails};
-ghost use Rattle.edge_info.specs.Entries.{AreInfos, infos_bytes, IsSized};
+ghost use Rattle.edge_info.specs.Entries.{InfosPass, AreInfos, infos_bytes};
 ghost use Rattle.edge_info.specs.declared.infos.InfoSet.{InfoSet};
 ghost use Rattle.edge_info.specs.InfoSets.{gap, padding_at, info_set_at, SpellsInfos};
 ghost use Rattle.edge_info.specs.EntryReading.{entries_at};
-ghost use Rattle.edge_info.specs.Texts.{AreTexts, texts_bytes};
+ghost use Rattle.edge_info.specs.Texts.{TextsPass, AreTexts, texts_bytes};
 ghost use Rattle.edge_info.specs.TextReading.{texts_at};
 
-/// Entries that are read are good and were spelled so; good entries are read again from their bytes.
+/// Entries that are read are good and were spelled so; good entries are read again from their bytes. Entries that pass
+/// are good where 32 bits can say how many their bytes are.
 pub fn entries_law()
     ensures found { (end count : ℕ) (section : List ℕ) (infos : List Info) → IsByteList section
         → entries_at end count section ≡ Ok infos → AreInfos count infos × (section ≡ infos_bytes infos) }
     ensures spelled { (end count : ℕ) (infos : List Info) → AreInfos count infos
         → entries_at end count (infos_bytes infos) ≡ Ok infos }
-    ensures sized { (count : ℕ) (infos : List Info) → AreInfos count infos → All IsSized infos }
+    ensures bounded { (count : ℕ) (infos : List Info) → InfosPass count infos → length (infos_bytes infos) < 2 ^ 32
+        → AreInfos count infos }
+    ensures passes { (count : ℕ) (infos : List Info) → AreInfos count infos → InfosPass count infos }
     ensures fails { (end count : ℕ) (section : List ℕ) (failure : FailedCheck) → IsByteList section
         → entries_at end count section ≡ Err failure
         → (at : ℕ) × EntryFails count section at × (failure ≡ Check 13 (end - (length section - at))) }
@@ -26,14 +29,16 @@ pub fn entries_law()
 {}
 
 /// Texts that are read are those of the entries' names and were spelled so; such texts are read again from their bytes.
+/// Texts that pass are such where 32 bits can say how many their bytes are.
 pub fn texts_law()
     ensures found { (end : ℕ) (names : List ℕ) (count : ℕ) (section : List ℕ) (texts : List (List ℕ)) → IsByteList section
         → texts_at end names count section ≡ Ok texts
         → AreTexts names texts × (section ≡ texts_bytes texts) × (length texts ≡ count) }
     ensures spelled { (end : ℕ) (names : List ℕ) (texts : List (List ℕ)) → AreTexts names texts
         → texts_at end names (length texts) (texts_bytes texts) ≡ Ok texts }
-    ensures sized { (names : List ℕ) (texts : List (List ℕ)) → AreTexts names texts
-        → All (λ text. length text < 2 ^ 32) texts }
+    ensures bounded { (names : List ℕ) (texts : List (List ℕ)) → TextsPass names texts → length (texts_bytes texts) < 2 ^ 32
+        → AreTexts names texts }
+    ensures passes { (names : List ℕ) (texts : List (List ℕ)) → AreTexts names texts → TextsPass names texts }
     ensures fails { (end : ℕ) (names : List ℕ) (count : ℕ) (section : List ℕ) (failure : FailedCheck) → IsByteList section
         → texts_at end names count section ≡ Err failure
         → (at : ℕ) × TextFails names count section at × (failure ≡ Check 15 (end - (length section - at))) }

@@ -1,14 +1,14 @@
 //! The infos of a tile, whole.
-ghost use Rattle.std.specs.Prelude.{◌≡◌, ◌+◌, ◌<◌, ◌^◌, length, All, Ok, IfOk};
+ghost use Rattle.std.specs.Prelude.{◌≡◌, ◌+◌, ◌<◌, ◌^◌, length, Ok, IfOk};
 ghost use Rattle.section_grammar.specs.Answers.{FailedCheck, Gives};
 ghost use Rattle.edge_info.specs.declared.infos.InfoSet.{InfoSet};
-ghost use Rattle.edge_info.specs.Entries.{AreInfos, names_of, IsSized};
+ghost use Rattle.edge_info.specs.Entries.{AreInfos, names_of};
 ghost use Rattle.edge_info.specs.Texts.{AreTexts};
 ghost use Rattle.edge_info.specs.InfoSets.{gap, joined_bytes, SpellsInfos, info_set_at};
 
 use crate::entries::read_entries;
 use crate::infos::{InfoFault, InfoSet, Infos, Texts};
-use crate::laws::{entries_law, infos_law, texts_law};
+use crate::laws::infos_law;
 use crate::padding::read_padding;
 use crate::texts::read_texts;
 use crate::writes::{push_infos, push_texts};
@@ -21,16 +21,12 @@ pub fn write_infos(alloc: Global, infos: &Infos, texts: &Texts) -> Result<Vec<u8
     requires texts { AreTexts (names_of infos.now) texts.now }
     ensures { IfOk result (λ bytes. bytes.items ≡ joined_bytes infos.now texts.now) }
 {
-    entries_law();
-    texts_law();
     spelled(alloc, infos, texts)
 }
 
 /// The bytes of entries and texts.
 #[tactic(auto, unfolding(crate::specs::InfoSets::joined_bytes))]
 fn spelled(alloc: Global, infos: &Infos, texts: &Texts) -> Result<Vec<u8>, AllocError>
-    requires infos { All IsSized infos.now }
-    requires texts { All (λ text. length text < 2 ^ 32) texts.now }
     ensures { IfOk result (λ bytes. bytes.items ≡ joined_bytes infos.now texts.now) }
 {
     let mut out = Vec::new(alloc);

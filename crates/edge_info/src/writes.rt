@@ -1,14 +1,14 @@
 //! Writing entries and texts.
-ghost use Rattle.std.specs.Prelude.{◌≡◌, ◌<◌, ◌^◌, ◌++◌, ◌∷◌, [], length, All, OnOk};
+ghost use Rattle.std.specs.Prelude.{◌≡◌, ◌++◌, ◌∷◌, [], OnOk};
 ghost use Rattle.section_grammar.specs.WordBytes.{half_bytes, halves_bytes};
-ghost use Rattle.edge_info.specs.Entries.{key_bytes, point_bytes, counted_bytes, info_bytes, infos_bytes, IsSized};
+ghost use Rattle.edge_info.specs.Entries.{key_bytes, point_bytes, counted_bytes, info_bytes, infos_bytes};
 ghost use Rattle.edge_info.specs.Texts.{text_bytes, texts_bytes};
 ghost use Rattle.std.specs.List.{flat_map};
 
 use crate::infos::{InfoView, Infos};
 use fixed_geo::Point;
 use osm_model::{PieceKey, TagText};
-use section_grammar::{push_half, push_word};
+use section_grammar::{push_count, push_half, push_word};
 use std::alloc::AllocError;
 
 /// Puts a key behind the bytes.
@@ -53,20 +53,18 @@ fn push_names(out: &mut Vec<u8>, names: &[u32]) -> Result<(), AllocError>
 /// Puts an entry behind the bytes.
 #[tactic(auto, unfolding(crate::specs::Entries::info_bytes))]
 fn push_info(out: &mut Vec<u8>, info: &InfoView<'_>) -> Result<(), AllocError>
-    requires few_points { length info.now.shape < 2 ^ 32 }
-    requires few_names { length info.now.texts < 2 ^ 32 }
     ensures { OnOk result (out.new.items ≡ out.old.items ++ info_bytes info.now) }
 {
     push_key(out, info.key())?;
-    push_half(out, info.shape().len() as u32)?;
+    push_count(out, info.shape().len())?;
     push_points(out, info.shape())?;
-    push_half(out, info.texts().len() as u32)?;
+    push_count(out, info.texts().len())?;
     push_names(out, info.texts())
 }
 
-/// Puts entries behind the bytes.
+/// Puts entries behind the bytes. Of a number of points or names of 2^32 or more the lowest four bytes stand there, so
+/// that its entry has no spelling, and all entries have more bytes than 32 bits can say.
 pub fn push_infos(out: &mut Vec<u8>, infos: &Infos) -> Result<(), AllocError>
-    requires { All IsSized infos.now }
     ensures { OnOk result (out.new.items ≡ out.old.items ++ infos_bytes infos.now) }
 {
     for i in 0..infos.len() {
@@ -78,16 +76,14 @@ pub fn push_infos(out: &mut Vec<u8>, infos: &Infos) -> Result<(), AllocError>
 /// Puts a text behind the bytes.
 #[tactic(auto, unfolding(crate::specs::Texts::text_bytes))]
 fn push_text(out: &mut Vec<u8>, text: &str) -> Result<(), AllocError>
-    requires { length text.now < 2 ^ 32 }
     ensures { OnOk result (out.new.items ≡ out.old.items ++ text_bytes text.now) }
 {
-    push_half(out, text.len() as u32)?;
+    push_count(out, text.len())?;
     out.extend_from_slice(text.as_bytes())
 }
 
-/// Puts texts behind the bytes.
+/// Puts texts behind the bytes. Of a length of 2^32 or more the lowest four bytes stand there.
 pub fn push_texts(out: &mut Vec<u8>, texts: &[TagText]) -> Result<(), AllocError>
-    requires { All (λ text. length text < 2 ^ 32) texts.now }
     ensures { OnOk result (out.new.items ≡ out.old.items ++ texts_bytes texts.now) }
 {
     for text in texts {

@@ -1,5 +1,5 @@
 -- Numbers that are read are those that were written, and what is read is spelled so.
-use Rattle.std.proofs.Common.{◌≡◌, ℕ, zero, suc, ◌+◌, ◌*◌, ◌^◌, ◌<◌, ◌≤◌, List, [], ◌∷◌, ◌++◌, length, get_or, take, drop, refl, sym, ap, ◌∙◌, append_assoc, arith}
+use Rattle.std.proofs.Common.{◌≡◌, ℕ, zero, suc, ◌+◌, ◌*◌, ◌%◌, ◌^◌, ◌<◌, ◌≤◌, List, [], ◌∷◌, ◌++◌, length, get_or, take, drop, refl, sym, ap, ◌∙◌, append_assoc, arith}
 use Rattle.std.specs.Int.{w32, w64, to_le_bytes, from_le_bytes}
 use Rattle.std.proofs.lemmas.List.{take_at, drop_at, drop-drop, take-append-drop, length-append, length-take, length-drop}
 use Rattle.std.proofs.lemmas.List.Concat.{flat_map-cons}
@@ -87,3 +87,11 @@ half_length n = refl
 pub halves_bytes-length : (hs : List ℕ) → length (halves_bytes hs) ≡ length hs * 4
 halves_bytes-length [] = refl
 halves_bytes-length (h ∷ hs) = ap length (flat_map-cons half_bytes h hs) ∙ omega (arith, length-append (half_bytes h) (halves_bytes hs), half_length h, halves_bytes-length hs)
+
+four_same : {a a' b b' c c' d d' : ℕ} → a ≡ a' → b ≡ b' → c ≡ c' → d ≡ d' → ◌≡◌ {A = List ℕ} (a ∷ b ∷ c ∷ d ∷ []) (a' ∷ b' ∷ c' ∷ d' ∷ [])
+four_same e0 e1 e2 e3 = cc
+
+-- a half has the lowest four bytes of a number
+pub low_half_bytes : (n : ℕ) → half_bytes (n % 2 ^ 32) ≡ half_bytes n
+unfolding half_bytes
+low_half_bytes n = four_same (omega arith) (omega arith) (omega arith) (omega arith)

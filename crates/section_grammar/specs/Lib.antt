@@ -2,3 +2,4 @@ pub mod WordBytes
 pub mod Reads
 pub mod Sections
 pub mod Answers
+pub mod FirstFailing

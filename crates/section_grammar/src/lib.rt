@@ -8,4 +8,4 @@ mod writes;
 
 pub use fault::SectionFault;
 pub use parts::{cut, four_words, half, place, word};
-pub use writes::{push_half, push_record, push_word, push_zeros};
+pub use writes::{push_count, push_half, push_record, push_word, push_zeros};

@@ -22,6 +22,14 @@ pub fn push_half(out: &mut Vec<u8>, half: u32) -> Result<(), AllocError>
     out.extend_from_slice(&half.to_le_bytes())
 }
 
+/// Puts a count behind the bytes, as a half: of a count of 2^32 or more the lowest four bytes.
+#[tactic(auto, using(crate::proofs::WordLaws::low_half_bytes))]
+pub fn push_count(out: &mut Vec<u8>, count: usize) -> Result<(), AllocError>
+    ensures { OnOk result (out.new.items ≡ out.old.items ++ half_bytes count) }
+{
+    push_half(out, (count % 0x1_0000_0000) as u32)
+}
+
 /// The bytes of four words.
 #[inline]
 fn record_bytes(a: u64, b: u64, c: u64, d: u64) -> [u8; 32]

@@ -5,7 +5,7 @@ use Rattle.std.proofs.lemmas.List.{length-append}
 use Rattle.section_grammar.specs.WordBytes.{IsByteList, word_in, word_bytes, words_bytes}
 use Rattle.section_grammar.specs.Reads.{read_many}
 use Rattle.section_grammar.specs.Answers.{Check, place_of}
-use Rattle.section_grammar.specs.Sections.{IsSection}
+use Rattle.section_grammar.specs.Sections.{IsReader, IsSection}
 use Rattle.section_grammar.proofs.ByteLists.{IsByteList-drop}
 use Rattle.section_grammar.proofs.WordLaws.{word_takes, word_below, word_again, word_after, word_length, words_bytes-length}
 use Rattle.section_grammar.proofs.Steps.{guard_ok}
@@ -54,5 +54,8 @@ chain_again level end before x rest is =
     let ids = (ids_section (rules.Only level) 11 end).spelled x rest is.fits_so.each in
     ap (chain_at level end before) regrouped ∙ rw (long, w, left, few, room) ids
 
+pub chains_reader : (level end : ℕ) → IsReader (chain_at level end) chain_bytes (IsTileChain level)
+chains_reader level end = record { takes = chain_takes level end; again = chain_again level end }
+
 pub chains_section : (level end : ℕ) → IsSection (chain_at level end) chain_bytes (IsTileChain level)
-chains_section level end = section_of (chain_at level end) chain_bytes (IsTileChain level) (record { takes = chain_takes level end; again = chain_again level end })
+chains_section level end = section_of (chain_at level end) chain_bytes (IsTileChain level) (chains_reader level end)

@@ -15,7 +15,7 @@ use Rattle.way_tags.specs.declared.modes.TheConstants.{ALL}
 use Rattle.tile_bytes.specs.declared.header.Header.{Header}
 use Rattle.tile_bytes.specs.Header.{file_size, header_of, corner_word, header_words, names_tile, are_modes, tested, header_tests, header_at, IsTileHeader}
 
-abbrev AllPass : List (Bool × FailedCheck) → Type 0
+abbrev pub AllPass : List (Bool × FailedCheck) → Type 0
 AllPass [] = Unit {0}
 AllPass (t ∷ ts) = (t.0 ≡ true) × AllPass ts
 
@@ -23,7 +23,7 @@ tested_step : {A : Type 0} (b : Bool) (d : FailedCheck) (r : Result A FailedChec
 tested_step true d r y e = (refl, e)
 tested_step false d r y e = absurd cc
 
-tested_ok : {A : Type 0} (ts : List (Bool × FailedCheck)) (x y : A) → tested ts x ≡ Ok y → AllPass ts × (x ≡ y)
+pub tested_ok : {A : Type 0} (ts : List (Bool × FailedCheck)) (x y : A) → tested ts x ≡ Ok y → AllPass ts × (x ≡ y)
 tested_ok [] x y e = (tt, ok_is {F = FailedCheck} x y e)
 tested_ok (t ∷ ts) x y e =
     let a = tested_step t.0 t.1 (tested ts x) y e in

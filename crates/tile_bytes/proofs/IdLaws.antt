@@ -6,7 +6,7 @@ use Rattle.graph_id.specs.GraphId.{level_of, invalid}
 use Rattle.section_grammar.specs.WordBytes.{IsByteList, word_in, word_bytes}
 use Rattle.section_grammar.specs.Reads.{read_many}
 use Rattle.section_grammar.specs.Answers.{FailedCheck, Check, place_of}
-use Rattle.section_grammar.specs.Sections.{IsSection}
+use Rattle.section_grammar.specs.Sections.{IsReader, IsSection}
 use Rattle.section_grammar.proofs.WordLaws.{word_takes, word_again, word_after, word_length}
 use Rattle.section_grammar.proofs.Steps.{bind_ok, guard_ok, passed_ok, ok_is}
 use Rattle.section_grammar.proofs.Sections.{section_of}
@@ -55,8 +55,11 @@ id_again rule check end before x rest is =
     let test : (ltb x invalid && allows rule (level_of x)) ≡ true = and_from _ _ (lt-ltb _ _ valid) is.passes_so in
     rw (long, w, test, word_after x rest) refl
 
+pub ids_reader : (rule : LevelRule) (check end : ℕ) → IsReader (id_at rule check end) word_bytes (IsId rule)
+ids_reader rule check end = record { takes = id_takes rule check end; again = id_again rule check end }
+
 pub ids_section : (rule : LevelRule) (check end : ℕ) → IsSection (id_at rule check end) word_bytes (IsId rule)
-ids_section rule check end = section_of (id_at rule check end) word_bytes (IsId rule) (record { takes = id_takes rule check end; again = id_again rule check end })
+ids_section rule check end = section_of (id_at rule check end) word_bytes (IsId rule) (ids_reader rule check end)
 
 -- GraphIds that were read leave no more bytes than there were
 pub ids_left : (rule : LevelRule) (check end n : ℕ) (before : List ℕ) (rest : List ℕ) (all : List ℕ) (after : List ℕ) → read_many (id_at rule check end) n before rest ≡ Ok (all, after) → length after ≤ length rest

@@ -20,7 +20,7 @@ use Rattle.tile_bytes.specs.declared.header.Header.{Header}
 use Rattle.tile_bytes.specs.Tiles.{has_entry}
 use Rattle.tile_bytes.specs.TileReading.{edge_entries_at, with_texts, with_infos, infos_at}
 
-abbrev HasEntry : List ℕ → EdgeFields → Type 0
+abbrev pub HasEntry : List ℕ → EdgeFields → Type 0
 HasEntry starts e = has_entry starts e ≡ true
 
 pub entries_are : (at : ℕ) (starts : List ℕ) (es : List EdgeFields) (u : Unit {0}) → edge_entries_at at starts es ≡ Ok u → All (HasEntry starts) es

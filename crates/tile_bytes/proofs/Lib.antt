@@ -18,3 +18,9 @@ pub mod Pieces
 pub mod Answered
 pub mod SequenceLaws
 pub mod WriteLaws
+pub mod CheckNumbers
+pub mod HeaderChecks
+pub mod RecordChecks
+pub mod ListChecks
+pub mod InfoChecks
+pub mod WholeChecks

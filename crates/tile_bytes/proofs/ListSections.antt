@@ -74,7 +74,7 @@ offsets_again at (e ∷ es) = again_step at e es e.shortcut (offsets_again (at +
 
 -- ---- the sections
 
-chains_take : (level end count : ℕ) (rest : List ℕ) (chains : List (List ℕ)) → IsByteList rest → chains_at level end count rest ≡ Ok chains
+pub chains_take : (level end count : ℕ) (rest : List ℕ) (chains : List (List ℕ)) → IsByteList rest → chains_at level end count rest ≡ Ok chains
     → AllGood (IsTileChain level) [] chains × (rest ≡ flat_map chain_bytes chains) × (length chains ≡ count)
 unfolding chains_at
 chains_take level end count rest chains fits e =
@@ -85,7 +85,7 @@ chains_take level end count rest chains fits e =
     let all : rest ≡ flat_map chain_bytes a.0.0 = found.1 ∙ ap (λ t. flat_map chain_bytes a.0.0 ++ t) none ∙ append-nil (flat_map chain_bytes a.0.0) in
     subst (λ (x : List (List ℕ)). AllGood (IsTileChain level) [] x × (rest ≡ flat_map chain_bytes x) × (length x ≡ count)) (ok_is {F = FailedCheck} a.0.0 chains g.1) (found.0, all, found.2)
 
-chains_again : (level end : ℕ) (chains : List (List ℕ)) → AllGood (IsTileChain level) [] chains → chains_at level end (length chains) (flat_map chain_bytes chains) ≡ Ok chains
+pub chains_again : (level end : ℕ) (chains : List (List ℕ)) → AllGood (IsTileChain level) [] chains → chains_at level end (length chains) (flat_map chain_bytes chains) ≡ Ok chains
 unfolding chains_at
 chains_again level end chains good =
     let k : read_many (chain_at level end) (length chains) [] (flat_map chain_bytes chains) ≡ Ok (chains, []) =

@@ -5,9 +5,9 @@ use Rattle.graph_id.specs.GraphId.{invalid}
 use Rattle.tile_records.specs.Layout.{AreWords, BitSpan, HasNoSpare, has_no_spare, number_in}
 use Rattle.tile_records.specs.Nodes.{NodeFields, NodeFits, node_words, node_of, node_read, node_spans, AreNodeWords}
 use Rattle.tile_records.specs.Edges.{EdgeFields, EdgeFits, edge_words, edge_of, edge_read, edge_spans, edge_layout, AreEdgeWords}
-use Rattle.section_grammar.specs.Sections.{IsSection}
+use Rattle.section_grammar.specs.Sections.{IsReader, IsSection}
 use Rattle.tile_bytes.specs.Items.{node_record_at, node_passes, node_bytes, IsNodeRecord, edge_record_at, edge_passes, edge_bytes, IsEdgeRecord}
-use Rattle.tile_bytes.proofs.RecordLaws.{records_section}
+use Rattle.tile_bytes.proofs.RecordLaws.{records_reader, records_section}
 
 some_is : {R : Type 0} (b : Bool) (r x : R) → ◌≡◌ {A = Option R} (cond b (Some r) None) (Some x) → (b ≡ true) × (r ≡ x)
 some_is true r x e = (refl, cc)
@@ -40,6 +40,9 @@ module _
       let s = spelled r fits in
       (s.0, ap (λ b. cond b (Some (node_of (node_words r))) None) (spare_from node_spans (node_words r) s.1) ∙ ap (λ (n : NodeFields). Some n) (back r fits))
 
+  pub nodes_reader : (level tile end : ℕ) → IsReader (node_record_at level tile end) node_bytes (IsNodeRecord level tile)
+  nodes_reader level tile end = records_reader node_read node_words NodeFits (node_passes level tile) 8 node_read_is node_read_again end
+
   pub nodes_section : (level tile end : ℕ) → IsSection (node_record_at level tile end) node_bytes (IsNodeRecord level tile)
   nodes_section level tile end = records_section node_read node_words NodeFits (node_passes level tile) 8 node_read_is node_read_again end
 
@@ -62,6 +65,9 @@ module _
       let s = spelled r fits in
       let test = and_from (has_no_spare edge_spans (edge_words r)) (ltb (number_in (edge_words r) edge_layout.end) invalid) (spare_from edge_spans (edge_words r) s.1.no_spare) (lt-ltb _ _ s.1.valid_end) in
       (s.0, ap (λ b. cond b (Some (edge_of (edge_words r))) None) test ∙ ap (λ (n : EdgeFields). Some n) (back r fits))
+
+  pub edges_reader : (level end : ℕ) → IsReader (edge_record_at level end) edge_bytes (IsEdgeRecord level)
+  edges_reader level end = records_reader edge_read edge_words EdgeFits (edge_passes level) 9 edge_read_is edge_read_again end
 
   pub edges_section : (level end : ℕ) → IsSection (edge_record_at level end) edge_bytes (IsEdgeRecord level)
   edges_section level end = records_section edge_read edge_words EdgeFits (edge_passes level) 9 edge_read_is edge_read_again end

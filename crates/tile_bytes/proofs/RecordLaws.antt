@@ -5,7 +5,7 @@ use Rattle.std.proofs.lemmas.List.{length-append, drop_at}
 use Rattle.tile_records.specs.Layout.{AreWords}
 use Rattle.section_grammar.specs.WordBytes.{IsByteList, words_in, words_bytes}
 use Rattle.section_grammar.specs.Answers.{FailedCheck, Check, place_of}
-use Rattle.section_grammar.specs.Sections.{IsSection}
+use Rattle.section_grammar.specs.Sections.{IsReader, IsSection}
 use Rattle.section_grammar.proofs.WordLaws.{words_take, words_below, words_again, words_bytes-length}
 use Rattle.section_grammar.proofs.Steps.{guard_ok, passed_ok, ok_is}
 use Rattle.section_grammar.proofs.Sections.{section_of}
@@ -53,5 +53,8 @@ module _ {R : Type 0} (read : List ℕ → Option R) (words : R → List ℕ) (f
       ap (λ b. cond b (Ok (x, drop 32 bytes)) (Err (Check check (place_of end bytes)))) is.passes_so in
       one ∙ two ∙ three ∙ ap (λ t. Ok (x, t)) (drop_at (words_bytes (words x)) rest 32 len)
 
+  pub records_reader : (end : ℕ) → IsReader (record_at read passes check end) (λ (r : R). words_bytes (words r)) (IsNext fits passes)
+  records_reader end = record { takes = record_takes end; again = record_again end }
+
   pub records_section : (end : ℕ) → IsSection (record_at read passes check end) (λ (r : R). words_bytes (words r)) (IsNext fits passes)
-  records_section end = section_of (record_at read passes check end) (λ (r : R). words_bytes (words r)) (IsNext fits passes) (record { takes = record_takes end; again = record_again end })
+  records_section end = section_of (record_at read passes check end) (λ (r : R). words_bytes (words r)) (IsNext fits passes) (records_reader end)

@@ -7,7 +7,7 @@ use Rattle.std.proofs.lemmas.Nat.{and_le_r}
 use Rattle.graph_id.specs.GraphId.{invalid}
 use Rattle.section_grammar.specs.WordBytes.{IsByteList, word_in, words_in, word_bytes, words_bytes}
 use Rattle.section_grammar.specs.Reads.{read_many, AllGood}
-use Rattle.section_grammar.specs.Sections.{FillsSection}
+use Rattle.section_grammar.specs.Sections.{IsReader, FillsSection}
 use Rattle.section_grammar.proofs.ByteLists.{IsByteList-drop}
 use Rattle.section_grammar.proofs.WordLaws.{word_takes, word_again, word_after, word_length, words_again, words_bytes-length}
 use Rattle.section_grammar.proofs.Sections.{filling_of}
@@ -101,9 +101,12 @@ sequence_again end before s rest is =
     let ids = (ids_section rules.Any 12 end).spelled s.edges rest is.fits_so in
     ap (sequence_at end before) (append_assoc (word_bytes w) (words_bytes s.edges) rest) ∙ made_again end s rest bytes w before w-is left long len modes passes ids
 
-sequence_some : (before : List Sequence) (s : Sequence) → IsTileSequence before s → 0 < length (sequence_bytes s)
+pub sequence_some : (before : List Sequence) (s : Sequence) → IsTileSequence before s → 0 < length (sequence_bytes s)
 unfolding sequence_bytes
 sequence_some before s is = omega (arith, length-append (word_bytes (length s.edges + 2 ^ 16 * s.modes)) (words_bytes s.edges), word_length (length s.edges + 2 ^ 16 * s.modes))
 
+pub sequences_reader : (end : ℕ) → IsReader (sequence_at end) sequence_bytes IsTileSequence
+sequences_reader end = record { takes = sequence_takes end; again = sequence_again end }
+
 pub sequences_filling : (end : ℕ) → FillsSection (sequence_at end) sequence_bytes IsTileSequence
-sequences_filling end = filling_of (sequence_at end) sequence_bytes IsTileSequence (record { takes = sequence_takes end; again = sequence_again end }) sequence_some
+sequences_filling end = filling_of (sequence_at end) sequence_bytes IsTileSequence (sequences_reader end) sequence_some

@@ -16,9 +16,10 @@ use Rattle.section_grammar.specs.Answers.{FailedCheck}
 use Rattle.section_grammar.proofs.ByteLists.{IsByteList-rest, IsByteList-drop}
 use Rattle.section_grammar.proofs.WordLaws.{half_length}
 use Rattle.section_grammar.proofs.Steps.{bind_ok, ok_is}
+use Rattle.edge_info.specs.declared.infos.Info.{Info}
 use Rattle.edge_info.specs.declared.infos.InfoSet.{InfoSet}
-use Rattle.edge_info.specs.Entries.{infos_bytes}
-use Rattle.edge_info.specs.Texts.{texts_bytes, text_bytes}
+use Rattle.edge_info.specs.Entries.{infos_bytes, names_of, InfosPass, AreInfos}
+use Rattle.edge_info.specs.Texts.{texts_bytes, text_bytes, TextsPass, AreTexts}
 use Rattle.edge_info.specs.InfoSets.{gap, joined_bytes}
 use Rattle.tile_bytes.specs.declared.header.TheConstants.{MOST_RECORDS}
 use Rattle.tile_bytes.specs.declared.header.Header.{Header}
@@ -113,11 +114,24 @@ unfolding header_of_tile
 header_same h r l s rest good sizes texts =
     rw (good.node_number, good.edge_number, good.transition_number, sizes.chain_words, sizes.sequence_words, texts, sizes.info_bytes, sizes.text_bytes) refl
 
+-- what passes has a spelling where its bytes are few, and what has one passes
+abbrev pub InfosBounded : Type 0
+InfosBounded = (count : ℕ) (infos : List Info) → InfosPass count infos → length (infos_bytes infos) < 2 ^ 32 → AreInfos count infos
+
+abbrev pub TextsBounded : Type 0
+TextsBounded = (names : List ℕ) (texts : List (List ℕ)) → TextsPass names texts → length (texts_bytes texts) < 2 ^ 32 → AreTexts names texts
+
+abbrev pub AllInfosPass : Type 0
+AllInfosPass = (count : ℕ) (infos : List Info) → AreInfos count infos → InfosPass count infos
+
+abbrev pub AllTextsPass : Type 0
+AllTextsPass = (names : List ℕ) (texts : List (List ℕ)) → AreTexts names texts → TextsPass names texts
+
 -- the tile of what was read
-made_of : (bytes : List ℕ) (h : Header) (r : TileRecords) (rest0 rest : List ℕ) (l : TileLists) (s : InfoSet) → HeaderTook bytes h rest0 → RecordsGood h r → rest0 ≡ records_bytes r rest
+made_of : AllInfosPass → AllTextsPass → (bytes : List ℕ) (h : Header) (r : TileRecords) (rest0 rest : List ℕ) (l : TileLists) (s : InfoSet) → HeaderTook bytes h rest0 → RecordsGood h r → rest0 ≡ records_bytes r rest
     → ListsTook h r.edges rest l → InfosTook h r.edges (behind_lists h rest) s → Sizes h r l s rest → TileSpelled bytes (tile_with h r l s)
 unfolding spelling_of joined_bytes
-made_of bytes h r rest0 rest l s head good records lists infos sizes =
+made_of infos_pass texts_pass bytes h r rest0 rest l s head good records lists infos sizes =
     let t = tile_with h r l s in
     let same = header_same h r l s rest good sizes infos.text_number in
     let last = drop h.text_bytes (drop h.info_bytes (behind_lists h rest)) in
@@ -144,9 +158,9 @@ made_of bytes h r rest0 rest l s head good records lists infos sizes =
         chains = lists.good.chains;
         chain_places = lists.good.chain_places;
         sequences = lists.good.sequences;
-        infos = rw infos.text_number infos.infos;
+        infos = infos_pass (length s.texts) s.infos (rw infos.text_number infos.infos);
         entries = infos.entries;
-        texts = infos.texts;
+        texts = texts_pass (names_of s.infos) s.texts infos.texts;
       };
       fits = record {
         chains = subst (λ (n : ℕ). n < 2 ^ 32) (sym sizes.chain_words) head.good.chain_words;
@@ -166,7 +180,7 @@ numbered r0 a b c n e d len h p q r = omega arith
 joined_front : (a b c rest : List ℕ) → a ++ (b ++ (c ++ rest)) ≡ (a ++ (b ++ c)) ++ rest
 joined_front a b c rest = ap (λ x. a ++ x) (sym (append_assoc b c rest)) ∙ sym (append_assoc a (b ++ c) rest)
 
-module _
+module _ (infos_pass : AllInfosPass) (texts_pass : AllTextsPass)
     (records_take : (end : ℕ) (h : Header) (rest : List ℕ) (r : TileRecords) (after : List ℕ) → IsByteList rest → records_at end h rest ≡ Ok (r, after) → RecordsGood h r × (rest ≡ records_bytes r after))
     (infos_take : (end : ℕ) (h : Header) (edges : List EdgeFields) (rest : List ℕ) (s : InfoSet) → IsByteList rest → infos_at end h edges rest ≡ Ok s → InfosTook h edges rest s) where
   pub tile_takes : (bytes : List ℕ) (tile : Tile) → IsByteList bytes → tile_at bytes ≡ Ok tile → TileSpelled bytes tile
@@ -195,7 +209,7 @@ module _
       sized h.nodes h.edges h.transitions (length rest0) h.chain_words h.sequence_words h.info_bytes h.text_bytes (gap (h.info_bytes + h.text_bytes)) (length rest) head.left
       (numbered (length rest0) (length r.nodes) (length r.edges) (length r.transitions) h.nodes h.edges h.transitions (length rest) (ap length records.1 ∙ records_bytes-length r rest) records.0.node_number records.0.edge_number records.0.transition_number) in
       subst (λ (t : Tile). TileSpelled bytes t) (ok_is {F = FailedCheck} (tile_with h r l s) tile f.2)
-      (made_of bytes h r rest0 rest l s head records.0 records.1 lists infos (sizes_are h r l s rest size lists infos))
+      (made_of infos_pass texts_pass bytes h r rest0 rest l s head records.0 records.1 lists infos (sizes_are h r l s rest size lists infos))
 
 -- ---- again
 
@@ -292,18 +306,18 @@ zeros_all g last e =
     let n : length last ≡ g = ap length e ∙ length-replicate {A = ℕ} g 0 in
     e ∙ ap (λ k. replicate k 0) (sym n)
 
-infos_good : (tile : Tile) → PassesChecks tile → InfosTook (header_of_tile tile) tile.edges (behind_lists (header_of_tile tile) (lists_of tile)) (tile_infos tile)
+infos_good : InfosBounded → TextsBounded → (tile : Tile) → PassesChecks tile → FitsHeader tile → InfosTook (header_of_tile tile) tile.edges (behind_lists (header_of_tile tile) (lists_of tile)) (tile_infos tile)
 unfolding header_of_tile
-infos_good tile passes =
+infos_good infos_bounded texts_bounded tile passes small =
     let i = length (infos_bytes tile.infos) in
     let t = length (texts_bytes tile.texts) in
     let tail = texts_bytes tile.texts ++ zeros_of tile in
     let at = behind_both tile in
     let behind : drop i (drop (8 * words_of_sequences tile.sequences) (drop (8 * words_of_chains tile.chains) (lists_of tile))) ≡ tail = ap (drop i) at ∙ drop_at (infos_bytes tile.infos) tail i refl in
     record {
-      infos = passes.infos;
+      infos = infos_bounded (length tile.texts) tile.infos passes.infos small.infos;
       entries = passes.entries;
-      texts = passes.texts;
+      texts = texts_bounded (names_of tile.infos) tile.texts passes.texts small.texts;
       text_number = refl;
       info_section = ap (take i) at ∙ take_at (infos_bytes tile.infos) tail i refl;
       text_section = ap (take t) behind ∙ take_at (texts_bytes tile.texts) (zeros_of tile) t refl;
@@ -328,7 +342,7 @@ corner_again : (tile : Tile) → PassesChecks tile → corner_word (header_of_ti
 unfolding header_of_tile
 corner_again tile passes = corner_below tile.id passes.id
 
-module _
+module _ (infos_bounded : InfosBounded) (texts_bounded : TextsBounded)
     (records_again : (end : ℕ) (h : Header) (r : TileRecords) (after : List ℕ) → RecordsGood h r → records_at end h (records_bytes r after) ≡ Ok (r, after))
     (infos_again : (end : ℕ) (h : Header) (edges : List EdgeFields) (rest : List ℕ) (s : InfoSet) → InfosTook h edges rest s → infos_at end h edges rest ≡ Ok s) where
   pub tile_again : (bytes : List ℕ) (tile : Tile) → TileSpelled bytes tile → tile_at bytes ≡ Ok tile
@@ -342,5 +356,5 @@ module _
       let e0 : header_at bytes ≡ Ok (h, rest0) = ap header_at parts ∙ header_again h rest0 good (corner_again tile is.passes) (size_again tile) in
       chained bytes h r rest0 rest (tile_lists tile) (tile_infos tile) e0 (records_again (length bytes) h r rest (records_good tile is.passes))
       (lists_again (length bytes) h tile.edges rest (tile_lists tile) (lists_good tile is.passes))
-      (infos_again (length bytes) h tile.edges (behind_lists h rest) (tile_infos tile) (infos_good tile is.passes))
+      (infos_again (length bytes) h tile.edges (behind_lists h rest) (tile_infos tile) (infos_good infos_bounded texts_bounded tile is.passes is.fits))
       ∙ ap (λ (t : Tile). Ok t) (whole_again tile)

@@ -10,3 +10,4 @@ pub mod TileSections
 pub mod Tiles
 pub mod TileReading
 pub mod Writing
+pub mod TileChecks

@@ -5,8 +5,8 @@ use Rattle.graph_id.specs.GraphId.{level_of, tile_of_id}
 use Rattle.tile_records.specs.Edges.{EdgeFields}
 use Rattle.section_grammar.specs.WordBytes.{words_bytes}
 use Rattle.section_grammar.specs.Reads.{AllGood}
-use Rattle.edge_info.specs.Entries.{AreInfos, infos_bytes, names_of, starts_of, starts_at}
-use Rattle.edge_info.specs.Texts.{AreTexts, texts_bytes}
+use Rattle.edge_info.specs.Entries.{InfosPass, infos_bytes, names_of, starts_of, starts_at}
+use Rattle.edge_info.specs.Texts.{TextsPass, texts_bytes}
 use Rattle.edge_info.specs.InfoSets.{joined_bytes}
 use Rattle.tile_bytes.specs.declared.header.TheConstants.{MOST_RECORDS}
 use Rattle.tile_bytes.specs.declared.header.Header.{Header}
@@ -36,9 +36,9 @@ pub record PassesChecks (tile : Tile) : Type 0 where
   pub chains : AllGood (IsTileChain (level_of tile.id)) [] tile.chains
   pub chain_places : named_chains tile.edges ≡ chain_offsets 0 tile.chains
   pub sequences : AllGood IsTileSequence [] tile.sequences
-  pub infos : AreInfos (length tile.texts) tile.infos
+  pub infos : InfosPass (length tile.texts) tile.infos
   pub entries : All (λ e. has_entry (starts_of tile.infos) e ≡ true) tile.edges
-  pub texts : AreTexts (names_of tile.infos) tile.texts
+  pub texts : TextsPass (names_of tile.infos) tile.texts
 
 -- the sizes of the sections fit the header
 pub record FitsHeader (tile : Tile) : Type 0 where

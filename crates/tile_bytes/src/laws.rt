@@ -1,5 +1,5 @@
 //! Each section is read as it was written, and was written as it is read.
-ghost use Rattle.std.specs.Prelude.{◌≡◌, ℕ, List, Ok};
+ghost use Rattle.std.specs.Prelude.{◌≡◌, ℕ, List, Ok, Err};
 ghost use Rattle.section_grammar.specs.Sections.{IsSection, FillsSection};
 ghost use Rattle.tile_bytes.specs.Items.{node_record_at, node_bytes, IsNodeRecord, edge_record_at, edge_bytes, IsEdgeRecord, id_at, IsId};
 ghost use Rattle.tile_bytes.specs.declared.ids.LevelRule.{LevelRule};
@@ -10,6 +10,8 @@ ghost use Rattle.section_grammar.specs.WordBytes.{IsByteList};
 ghost use Rattle.tile_bytes.specs.declared.tile.Tile.{Tile};
 ghost use Rattle.tile_bytes.specs.Tiles.{TileSpelled};
 ghost use Rattle.tile_bytes.specs.TileReading.{tile_at};
+ghost use Rattle.tile_bytes.specs.TileChecks.{TileCheck, check_number, CheckFails, IsFirstFailing, NoCheckFails};
+ghost use Rattle.section_grammar.specs.Answers.{FailedCheck, Check};
 
 use edge_info::{entries_law, padding_law, texts_law};
 use tile_records::{edge_law, node_law};
@@ -55,4 +57,21 @@ pub fn tile_law()
     entries_law();
     texts_law();
     padding_law();
+}
+
+/// Bytes fail at the first check that fails and at its first place, and bytes spell a tile exactly where no check fails.
+pub fn checks_law()
+    ensures first { (bytes : List ℕ) (check : TileCheck) (at : ℕ) → IsByteList bytes → IsFirstFailing bytes check at
+        → tile_at bytes ≡ Err (Check (check_number check) at) }
+    ensures only { (bytes : List ℕ) (failure : FailedCheck) → IsByteList bytes → tile_at bytes ≡ Err failure
+        → (check : TileCheck) × (at : ℕ) × IsFirstFailing bytes check at × (failure ≡ Check (check_number check) at) }
+    ensures spelled { (bytes : List ℕ) (tile : Tile) → IsByteList bytes → TileSpelled bytes tile → NoCheckFails bytes }
+    ensures spells { (bytes : List ℕ) → IsByteList bytes → NoCheckFails bytes → (tile : Tile) × TileSpelled bytes tile }
+{
+    node_law();
+    edge_law();
+    entries_law();
+    texts_law();
+    padding_law();
+    tile_law();
 }

@@ -1,18 +1,19 @@
 //! Reading a tile file.
-ghost use Rattle.std.specs.Prelude.{◌≡◌, ◌≤◌, ◌<◌, ◌^◌, ℕ, List, length, IfOk, Ok};
-ghost use Rattle.section_grammar.specs.Answers.{Gives};
+ghost use Rattle.std.specs.Prelude.{◌≡◌, ◌≤◌, ◌<◌, ◌^◌, ℕ, List, length, IfOk, IfErr, Ok, Err};
+ghost use Rattle.section_grammar.specs.Answers.{Check, Gives};
 ghost use Rattle.edge_info.specs.Entries.{infos_bytes, starts_of};
 ghost use Rattle.edge_info.specs.Starts.{MarkStarts};
 ghost use Rattle.edge_info.specs.EntryReading.{entries_at};
 ghost use Rattle.tile_bytes.specs.declared.tile.Tile.{Tile};
 ghost use Rattle.tile_bytes.specs.Chains.{named_chains};
 ghost use Rattle.tile_bytes.specs.Tiles.{has_entry, TileSpelled};
+ghost use Rattle.tile_bytes.specs.TileChecks.{TileCheck, check_number, IsFirstFailing, IsFirstFault};
 ghost use Rattle.tile_bytes.specs.TileReading.{lists_at, behind_lists, edge_entries_at, infos_at, tile_with, tile_at};
 
 use crate::chain_section::chains_of;
 use crate::chains::Chains;
 use crate::header::{Header, read_header};
-use crate::laws::tile_law;
+use crate::laws::{checks_law, tile_law};
 use crate::record_sections::{Records, read_records};
 use crate::sequence_section::sequences_in;
 use crate::sequences::Sequences;
@@ -196,9 +197,15 @@ pub fn read_tile(alloc: Global, bytes: &[u8]) -> Result<Tile, TileFault>
     ensures found { IfOk result (λ tile. TileSpelled bytes.now tile) }
     // What is spelled so is read, unless memory runs out.
     ensures only { (tile : Tile) → TileSpelled bytes.now tile → Gives (λ t. t) result (Ok tile) }
-    // Which check fails, and where.
+    // A fault is that of the first check that fails, at its first place.
+    ensures bad { IfErr result (λ fault. IsFirstFault bytes.now fault) }
+    // The first check that fails is answered, unless memory runs out.
+    ensures first { (check : TileCheck) (at : ℕ) → IsFirstFailing bytes.now check at
+        → Gives (λ t. t) result (Err (Check (check_number check) at)) }
+    // The same by the checks one after the other.
     ensures exact { Gives (λ t. t) result (tile_at bytes.now) }
 {
     tile_law();
+    checks_law();
     read_whole(alloc, bytes)
 }

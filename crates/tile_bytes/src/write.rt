@@ -1,8 +1,8 @@
 //! Writing a tile file.
-ghost use Rattle.std.specs.Prelude.{◌≡◌, ◌<◌, ◌^◌, ◌++◌, length, All, OnOk, IfOk};
+ghost use Rattle.std.specs.Prelude.{◌≡◌, ◌++◌, OnOk, IfOk};
 ghost use Rattle.std.specs.List.{flat_map};
 ghost use Rattle.section_grammar.specs.WordBytes.{words_bytes};
-ghost use Rattle.edge_info.specs.Entries.{infos_bytes, IsSized};
+ghost use Rattle.edge_info.specs.Entries.{infos_bytes};
 ghost use Rattle.edge_info.specs.Texts.{texts_bytes};
 ghost use Rattle.tile_bytes.specs.declared.write.WriteFault.TheVariants.{OutOfMemory};
 ghost use Rattle.tile_bytes.specs.Items.{node_bytes, edge_bytes};
@@ -115,8 +115,6 @@ pub(crate) struct Tails {
 
 /// The sections of a tile whose sizes stand in its header.
 pub(crate) fn tails_of(alloc: Global, tile: &Tile) -> Result<Tails, AllocError>
-    requires infos { All IsSized tile.now.infos }
-    requires texts { All (λ text. length text < 2 ^ 32) tile.now.texts }
     ensures chains { IfOk result (λ t. t.chains.items ≡ flat_map chain_bytes tile.now.chains) }
     ensures sequences { IfOk result (λ t. t.sequences.items ≡ flat_map sequence_bytes tile.now.sequences) }
     ensures infos { IfOk result (λ t. t.infos.items ≡ infos_bytes tile.now.infos) }

@@ -15,7 +15,6 @@ ghost use Rattle.tile_bytes.specs.Writing.{first_above, IsWriteFault};
 use crate::header::{Header, file_size, header_words, named_tile};
 use crate::tile::Tile;
 use crate::write::{Tails, WriteFault, push_edges, push_ids, push_nodes, tails_of};
-use edge_info::{entries_law, texts_law};
 use graph_id::GraphId;
 use section_grammar::{push_word, push_zeros};
 use std::alloc::{AllocError, Global};
@@ -141,7 +140,7 @@ fn spelled(alloc: Global, tile: &Tile, tails: &Tails) -> Result<Vec<u8>, AllocEr
     Ok(out)
 }
 
-/// The one spelling of a tile that passes the checks.
+/// The one spelling of a tile that passes the checks, however long its shapes and texts.
 pub fn write_tile(alloc: Global, tile: &Tile) -> Result<Vec<u8>, WriteFault>
     requires { PassesChecks tile.now }
     // What is written spells the tile.
@@ -149,8 +148,6 @@ pub fn write_tile(alloc: Global, tile: &Tile) -> Result<Vec<u8>, WriteFault>
     // The first section that is too large, or want of memory.
     ensures fault { IfErr result (λ fault. IsWriteFault tile.now fault) }
 {
-    entries_law();
-    texts_law();
     let tails = tails_of(alloc, tile)?;
     match too_large(&tails) {
         Some(count) => Err(WriteFault::Section { count }),

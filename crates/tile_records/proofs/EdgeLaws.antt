@@ -5,7 +5,8 @@ use Rattle.std.specs.Int.{from_bool}
 use Rattle.bit_words.specs.Bits.{word_of, FieldsFit, widths_of, total_width, fields_from}
 use Rattle.tile_records.specs.Layout.{AreWords, number_in, fields_of_word, used_bits}
 use Rattle.tile_records.specs.Edges.{EdgeFields, EdgeFits, edge_layout, edge_spans, edge_parts, edge_words, edge_of, AreEdgeWords}
-use Rattle.tile_records.proofs.Flags.{bool_fits, bool_back, bit_back, number, widths_in, four_are, below_each, below_wide}
+use Rattle.tile_records.proofs.Flags.{bool_fits, bool_back, bit_back, number, four_are}
+use Rattle.tile_records.proofs.RecordParts.{PartsFit, parts_spelled, own_words}
 
 edge_from : (a b c d : List (ℕ × ℕ)) → EdgeFields
 edge_from a b c d = record {
@@ -40,18 +41,13 @@ abbrev again : EdgeFields → ℕ → List (ℕ × ℕ)
 again r word = fields_from 0 (widths_of (part r word)) (word_of (part r word))
 
 -- each word's numbers fit
-module _ (r : EdgeFields) (fits : EdgeFits r) where
-  first_fits : FieldsFit (part r 0)
-  first_fits = (omega (arith, fits.end), (fits.mask, (fits.opposing, tt)))
-
-  second_fits : FieldsFit (part r 1)
-  second_fits = (fits.cm, (fits.local, (fits.opposing_local, (bool_fits r.leaves_tile, (bool_fits r.shortcut, (bool_fits r.not_thru, (bool_fits r.forward, (bool_fits r.flagged, (bool_fits r.in_chain, tt)))))))))
-
-  third_fits : FieldsFit (part r 2)
-  third_fits = (fits.forward_access, (fits.reverse_access, (fits.class, (fits.name_consistency, tt))))
-
-  fourth_fits : FieldsFit (part r 3)
-  fourth_fits = (fits.info, (fits.chain, tt))
+parts_fit : (r : EdgeFields) → EdgeFits r → PartsFit (edge_parts r)
+parts_fit r fits = record {
+  first = (omega (arith, fits.end), (fits.mask, (fits.opposing, tt)));
+  second = (fits.cm, (fits.local, (fits.opposing_local, (bool_fits r.leaves_tile, (bool_fits r.shortcut, (bool_fits r.not_thru, (bool_fits r.forward, (bool_fits r.flagged, (bool_fits r.in_chain, tt)))))))));
+  third = (fits.forward_access, (fits.reverse_access, (fits.class, (fits.name_consistency, tt))));
+  fourth = (fits.info, (fits.chain, tt));
+}
 
 module _ (law_back : (fields : List (ℕ × ℕ)) → FieldsFit fields → fields_from 0 (widths_of fields) (word_of fields) ≡ fields) where
   pub edge_back : (r : EdgeFields) → EdgeFits r → edge_of (edge_words r) ≡ r
@@ -59,7 +55,7 @@ module _ (law_back : (fields : List (ℕ × ℕ)) → FieldsFit fields → field
   edge_back r fits =
       let one : edge_of (edge_words r) ≡ edge_from (again r 0) (again r 1) (again r 2) (again r 3) = refl in
       let two : edge_from (again r 0) (again r 1) (again r 2) (again r 3) ≡ edge_from (part r 0) (part r 1) (part r 2) (part r 3) =
-      same_parts (law_back (part r 0) (first_fits r fits)) (law_back (part r 1) (second_fits r fits)) (law_back (part r 2) (third_fits r fits)) (law_back (part r 3) (fourth_fits r fits)) in
+      (let fit = parts_fit r fits in same_parts (law_back (part r 0) fit.first) (law_back (part r 1) fit.second) (law_back (part r 2) fit.third) (law_back (part r 3) fit.fourth)) in
       let three : edge_from (part r 0) (part r 1) (part r 2) (part r 3) ≡ r =
       rw (bool_back r.leaves_tile, bool_back r.shortcut, bool_back r.not_thru, bool_back r.forward, bool_back r.flagged, bool_back r.in_chain) refl in
       one ∙ two ∙ three
@@ -69,33 +65,13 @@ module _ (law_below : (fields : List (ℕ × ℕ)) → FieldsFit fields → word
     (law_back : (fields : List (ℕ × ℕ)) → FieldsFit fields → fields_from 0 (widths_of fields) (word_of fields) ≡ fields) where
   end_back : (r : EdgeFields) → EdgeFits r → number_in (edge_words r) edge_layout.end ≡ r.end
   unfolding edge_words
-  end_back r fits = let e : number (again r 0) 0 ≡ r.end = ap (λ fs. number fs 0) (law_back (part r 0) (first_fits r fits)) in e
-
-  words_are : (r : EdgeFields) → EdgeFits r → AreWords (edge_words r)
-  unfolding edge_words
-  words_are r fits =
-      let b0 = law_below (part r 0) (first_fits r fits) in
-      let b1 = law_below (part r 1) (second_fits r fits) in
-      let b2 = law_below (part r 2) (third_fits r fits) in
-      let b3 = law_below (part r 3) (fourth_fits r fits) in
-      record {
-        four = refl;
-        fit = below_each (word_of (part r 0)) (word_of (part r 1)) (word_of (part r 2)) (word_of (part r 3))
-            (below_wide (word_of (part r 0)) (used_bits 0 edge_spans) b0 (lit≤ tt))
-            (below_wide (word_of (part r 1)) (used_bits 1 edge_spans) b1 (lit≤ tt))
-            (below_wide (word_of (part r 2)) (used_bits 2 edge_spans) b2 (lit≤ tt))
-            (below_wide (word_of (part r 3)) (used_bits 3 edge_spans) b3 (lit≤ tt));
-      }
+  end_back r fits = let e : number (again r 0) 0 ≡ r.end = ap (λ fs. number fs 0) (law_back (part r 0) (parts_fit r fits).first) in e
 
   pub edge_spelled : (r : EdgeFields) → EdgeFits r → AreWords (edge_words r) × AreEdgeWords (edge_words r)
   unfolding edge_words
-  edge_spelled r fits = (
-    words_are r fits,
-    record {
-      no_spare = record { first = law_below (part r 0) (first_fits r fits); second = law_below (part r 1) (second_fits r fits); third = law_below (part r 2) (third_fits r fits); fourth = law_below (part r 3) (fourth_fits r fits) };
-      valid_end = rw (end_back r fits) fits.end;
-    },
-  )
+  edge_spelled r fits =
+      let spelled = parts_spelled law_below (edge_parts r) (lit≤ tt, lit≤ tt, lit≤ tt, lit≤ tt) (parts_fit r fits) in
+      (spelled.0, record { no_spare = spelled.1; valid_end = rw (end_back r fits) fits.end })
 
 pub edge_fits : (words : List ℕ) → AreEdgeWords words → EdgeFits (edge_of words)
 unfolding edge_of
@@ -122,8 +98,5 @@ module _ (law_whole : (widths : List ℕ) (word : ℕ) → word < 2 ^ total_widt
   pub edge_whole : (words : List ℕ) → AreWords words → AreEdgeWords words → edge_words (edge_of words) ≡ words
   unfolding edge_of edge_words
   edge_whole words are edge =
-      let e0 : word_of (fields_from 0 (widths_in 0 edge_spans) (get_or words 0 0)) ≡ get_or words 0 0 = law_whole (widths_in 0 edge_spans) (get_or words 0 0) edge.no_spare.first in
-      let e1 : word_of (fields_from 0 (widths_in 1 edge_spans) (get_or words 1 0)) ≡ get_or words 1 0 = law_whole (widths_in 1 edge_spans) (get_or words 1 0) edge.no_spare.second in
-      let e2 : word_of (fields_from 0 (widths_in 2 edge_spans) (get_or words 2 0)) ≡ get_or words 2 0 = law_whole (widths_in 2 edge_spans) (get_or words 2 0) edge.no_spare.third in
-      let e3 : word_of (fields_from 0 (widths_in 3 edge_spans) (get_or words 3 0)) ≡ get_or words 3 0 = law_whole (widths_in 3 edge_spans) (get_or words 3 0) edge.no_spare.fourth in
-      rw (flag_is words edge_layout.leaves_tile.first, flag_is words edge_layout.shortcut.first, flag_is words edge_layout.not_thru.first, flag_is words edge_layout.forward.first, flag_is words edge_layout.flagged.first, flag_is words edge_layout.in_chain.first, e0, e1, e2, e3) (sym (four_are words are.four))
+      let own = own_words law_whole edge_spans words edge.no_spare in
+      rw (flag_is words edge_layout.leaves_tile.first, flag_is words edge_layout.shortcut.first, flag_is words edge_layout.not_thru.first, flag_is words edge_layout.forward.first, flag_is words edge_layout.flagged.first, flag_is words edge_layout.in_chain.first, own.first, own.second, own.third, own.fourth) (sym (four_are words are.four))

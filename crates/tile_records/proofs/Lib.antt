@@ -1,3 +1,4 @@
 mod Flags
+mod RecordParts
 mod EdgeLaws
 mod NodeLaws

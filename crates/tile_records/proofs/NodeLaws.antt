@@ -7,7 +7,8 @@ use Rattle.std.specs.Int.{w32, w64, cast_signed, cast_unsigned, from_bool}
 use Rattle.bit_words.specs.Bits.{word_of, FieldsFit, widths_of, total_width, fields_from}
 use Rattle.tile_records.specs.Layout.{AreWords, number_in, fields_of_word, used_bits}
 use Rattle.tile_records.specs.Nodes.{NodeFields, NodeFits, node_layout, node_spans, node_parts, node_words, node_of, AreNodeWords}
-use Rattle.tile_records.proofs.Flags.{bool_fits, bool_back, bit_back, number, widths_in, four_are, below_each, below_wide}
+use Rattle.tile_records.proofs.Flags.{bool_fits, bool_back, bit_back, number, four_are}
+use Rattle.tile_records.proofs.RecordParts.{PartsFit, parts_spelled, own_words}
 
 word_below : (z : ℤ) → FitsSigned w64 z → cast_unsigned w64 z < 2 ^ 64
 word_below z fits = Fits-lt-pow (Fits-of_z fits)
@@ -40,18 +41,13 @@ abbrev again : NodeFields → ℕ → List (ℕ × ℕ)
 again r word = fields_from 0 (widths_of (part r word)) (word_of (part r word))
 
 -- each word's numbers fit
-module _ (r : NodeFields) (fits : NodeFits r) where
-  first_fits : FieldsFit (part r 0)
-  first_fits = (word_below r.osm fits.osm, tt)
-
-  second_fits : FieldsFit (part r 1)
-  second_fits = (half_below r.lat fits.lat, (half_below r.lon fits.lon, tt))
-
-  third_fits : FieldsFit (part r 2)
-  third_fits = (fits.edge_index, (fits.edge_count, (fits.transition_index, (fits.transition_count, tt))))
-
-  fourth_fits : FieldsFit (part r 3)
-  fourth_fits = (fits.access, (fits.density, (bool_fits r.barrier, tt)))
+parts_fit : (r : NodeFields) → NodeFits r → PartsFit (node_parts r)
+parts_fit r fits = record {
+  first = (word_below r.osm fits.osm, tt);
+  second = (half_below r.lat fits.lat, (half_below r.lon fits.lon, tt));
+  third = (fits.edge_index, (fits.edge_count, (fits.transition_index, (fits.transition_count, tt))));
+  fourth = (fits.access, (fits.density, (bool_fits r.barrier, tt)));
+}
 
 module _ (law_back : (fields : List (ℕ × ℕ)) → FieldsFit fields → fields_from 0 (widths_of fields) (word_of fields) ≡ fields) where
   pub node_back : (r : NodeFields) → NodeFits r → node_of (node_words r) ≡ r
@@ -59,35 +55,14 @@ module _ (law_back : (fields : List (ℕ × ℕ)) → FieldsFit fields → field
   node_back r fits =
       let one : node_of (node_words r) ≡ node_from (again r 0) (again r 1) (again r 2) (again r 3) = refl in
       let two : node_from (again r 0) (again r 1) (again r 2) (again r 3) ≡ node_from (part r 0) (part r 1) (part r 2) (part r 3) =
-      same_parts (law_back (part r 0) (first_fits r fits)) (law_back (part r 1) (second_fits r fits)) (law_back (part r 2) (third_fits r fits)) (law_back (part r 3) (fourth_fits r fits)) in
+      (let fit = parts_fit r fits in same_parts (law_back (part r 0) fit.first) (law_back (part r 1) fit.second) (law_back (part r 2) fit.third) (law_back (part r 3) fit.fourth)) in
       let three : node_from (part r 0) (part r 1) (part r 2) (part r 3) ≡ r =
       rw (to_z-of_z w64 r.osm fits.osm, to_z-of_z w32 r.lat fits.lat, to_z-of_z w32 r.lon fits.lon, bool_back r.barrier) refl in
       one ∙ two ∙ three
 
--- the words of a node
-module _ (law_below : (fields : List (ℕ × ℕ)) → FieldsFit fields → word_of fields < 2 ^ total_width (widths_of fields)) where
-  words_are : (r : NodeFields) → NodeFits r → AreWords (node_words r)
-  unfolding node_words
-  words_are r fits =
-      let b0 = law_below (part r 0) (first_fits r fits) in
-      let b1 = law_below (part r 1) (second_fits r fits) in
-      let b2 = law_below (part r 2) (third_fits r fits) in
-      let b3 = law_below (part r 3) (fourth_fits r fits) in
-      record {
-        four = refl;
-        fit = below_each (word_of (part r 0)) (word_of (part r 1)) (word_of (part r 2)) (word_of (part r 3))
-            (below_wide (word_of (part r 0)) (used_bits 0 node_spans) b0 (lit≤ tt))
-            (below_wide (word_of (part r 1)) (used_bits 1 node_spans) b1 (lit≤ tt))
-            (below_wide (word_of (part r 2)) (used_bits 2 node_spans) b2 (lit≤ tt))
-            (below_wide (word_of (part r 3)) (used_bits 3 node_spans) b3 (lit≤ tt));
-      }
-
-  pub node_spelled : (r : NodeFields) → NodeFits r → AreWords (node_words r) × AreNodeWords (node_words r)
-  unfolding node_words
-  node_spelled r fits = (
-    words_are r fits,
-    record { first = law_below (part r 0) (first_fits r fits); second = law_below (part r 1) (second_fits r fits); third = law_below (part r 2) (third_fits r fits); fourth = law_below (part r 3) (fourth_fits r fits) },
-  )
+pub node_spelled : ((fields : List (ℕ × ℕ)) → FieldsFit fields → word_of fields < 2 ^ total_width (widths_of fields)) → (r : NodeFields) → NodeFits r → AreWords (node_words r) × AreNodeWords (node_words r)
+unfolding node_words
+node_spelled law_below r fits = parts_spelled law_below (node_parts r) (lit≤ tt, lit≤ tt, lit≤ tt, lit≤ tt) (parts_fit r fits)
 
 pub node_fits : (words : List ℕ) → AreWords words → NodeFits (node_of words)
 unfolding node_of
@@ -110,11 +85,8 @@ module _ (law_whole : (widths : List ℕ) (word : ℕ) → word < 2 ^ total_widt
   pub node_whole : (words : List ℕ) → AreWords words → AreNodeWords words → node_words (node_of words) ≡ words
   unfolding node_of node_words
   node_whole words are node =
-      let e0 : word_of (fields_from 0 (widths_in 0 node_spans) (get_or words 0 0)) ≡ get_or words 0 0 = law_whole (widths_in 0 node_spans) (get_or words 0 0) node.first in
-      let e1 : word_of (fields_from 0 (widths_in 1 node_spans) (get_or words 1 0)) ≡ get_or words 1 0 = law_whole (widths_in 1 node_spans) (get_or words 1 0) node.second in
-      let e2 : word_of (fields_from 0 (widths_in 2 node_spans) (get_or words 2 0)) ≡ get_or words 2 0 = law_whole (widths_in 2 node_spans) (get_or words 2 0) node.third in
-      let e3 : word_of (fields_from 0 (widths_in 3 node_spans) (get_or words 3 0)) ≡ get_or words 3 0 = law_whole (widths_in 3 node_spans) (get_or words 3 0) node.fourth in
+      let own = own_words law_whole node_spans words node in
       let osm : cast_unsigned w64 (cast_signed w64 (number_in words node_layout.osm)) ≡ number_in words node_layout.osm = of_z-to_z w64 (number_in words node_layout.osm) (omega arith) in
       let lat : cast_unsigned w32 (cast_signed w32 (number_in words node_layout.lat)) ≡ number_in words node_layout.lat = of_z-to_z w32 (number_in words node_layout.lat) (omega arith) in
       let lon : cast_unsigned w32 (cast_signed w32 (number_in words node_layout.lon)) ≡ number_in words node_layout.lon = of_z-to_z w32 (number_in words node_layout.lon) (omega arith) in
-      rw (osm, lat, lon, barrier_is words, e0, e1, e2, e3) (sym (four_are words are.four))
+      rw (osm, lat, lon, barrier_is words, own.first, own.second, own.third, own.fourth) (sym (four_are words are.four))

@@ -1,4 +1,5 @@
-use Rattle.edge_info.proofs.TextLaws.{texts_found, texts_again, texts_sized}
+use Rattle.edge_info.proofs.TextLaws.{texts_found, texts_again}
+use Rattle.edge_info.proofs.Bounds.{texts_bounded, texts_pass}
 use Rattle.edge_info.proofs.TextFailing.{texts_fail, texts_fail_again}
 use Rattle.edge_info.proofs.laws.texts_law.Goals as goal
 
@@ -8,8 +9,11 @@ returns-clause-found c = λ end names count section texts fits e. texts_found en
 pub returns-clause-spelled : goal.returns-clause-spelled
 returns-clause-spelled c = λ end names texts are. texts_again end names texts are
 
-pub returns-clause-sized : goal.returns-clause-sized
-returns-clause-sized c = λ names texts are. texts_sized names texts are
+pub returns-clause-bounded : goal.returns-clause-bounded
+returns-clause-bounded c = λ names texts pass lt. texts_bounded names texts pass lt
+
+pub returns-clause-passes : goal.returns-clause-passes
+returns-clause-passes c = λ names texts are. texts_pass names texts are
 
 pub returns-clause-fails : goal.returns-clause-fails
 returns-clause-fails c = λ end names count section failure fits e. texts_fail end names count section failure fits e

@@ -8,12 +8,12 @@ use Rattle.tile_bytes.proofs.laws.tile_law.Goals as goal
 
 pub returns-clause-found : goal.returns-clause-found
 returns-clause-found c =
-    tile_takes (records_take c.nodes_law.ensures c.edges_law.ensures)
+    tile_takes c.entries_law.ensures.passes c.texts_law.ensures.passes (records_take c.nodes_law.ensures c.edges_law.ensures)
     (infos_take c.entries_law.ensures.found c.entries_law.ensures.spelled c.texts_law.ensures.found c.texts_law.ensures.spelled c.padding_law.ensures.found c.padding_law.ensures.spelled)
 
 pub returns-clause-spelled : goal.returns-clause-spelled
 returns-clause-spelled c =
-    tile_again (records_again c.nodes_law.ensures c.edges_law.ensures)
+    tile_again c.entries_law.ensures.bounded c.texts_law.ensures.bounded (records_again c.nodes_law.ensures c.edges_law.ensures)
     (infos_again c.entries_law.ensures.found c.entries_law.ensures.spelled c.texts_law.ensures.found c.texts_law.ensures.spelled c.padding_law.ensures.found c.padding_law.ensures.spelled)
 
 pub returns-clause-one_spelling : goal.returns-clause-one_spelling
@@ -21,6 +21,6 @@ returns-clause-one_spelling c = λ a b tile p q. p.spelled ∙ sym q.spelled
 
 pub returns-clause-one_tile : goal.returns-clause-one_tile
 returns-clause-one_tile c =
-    let again = tile_again (records_again c.nodes_law.ensures c.edges_law.ensures)
+    let again = tile_again c.entries_law.ensures.bounded c.texts_law.ensures.bounded (records_again c.nodes_law.ensures c.edges_law.ensures)
     (infos_again c.entries_law.ensures.found c.entries_law.ensures.spelled c.texts_law.ensures.found c.texts_law.ensures.spelled c.padding_law.ensures.found c.padding_law.ensures.spelled) in
     λ bytes a b p q. ok_is {F = FailedCheck} a b (sym (again bytes a p) ∙ again bytes b q)

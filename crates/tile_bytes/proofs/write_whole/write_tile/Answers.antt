@@ -1,13 +1,6 @@
-use Rattle.std.proofs.Common.{length, ◌∙◌}
-use Rattle.edge_info.specs.Entries.{names_of}
+use Rattle.std.proofs.Common.{◌∙◌}
 use Rattle.tile_bytes.proofs.WriteLaws.{counts_are, none_above}
 use Rattle.tile_bytes.proofs.write_whole.write_tile.Goals as goal
-
-pub tails_of-requires-clause-infos : goal.tails_of-requires-clause-infos
-tails_of-requires-clause-infos c = c.entries_law.ensures.sized (length c.args.tile.now.texts) c.args.tile.now.infos c.requires.infos
-
-pub tails_of-requires-clause-texts : goal.tails_of-requires-clause-texts
-tails_of-requires-clause-texts c = c.texts_law.ensures.sized (names_of c.args.tile.now.infos) c.args.tile.now.texts c.requires.texts
 
 pub returns-in-Some-clause-fault : goal.returns-in-Some-clause-fault
 returns-in-Some-clause-fault c =
