@@ -26,7 +26,7 @@ impl Model for Bytes {
 }
 
 impl Bytes {
-    /// No bytes. Takes no memory.
+    /// An empty list. Does not allocate.
     pub fn new(alloc: Global) -> Bytes
         ensures { result ≡ [] }
     {
@@ -43,7 +43,7 @@ impl Bytes {
         Ok(Bytes { items })
     }
 
-    /// The bytes, to be read.
+    /// The bytes as a slice.
     pub fn as_slice(&self) -> &[u8]
         ensures { result.now ≡ self.now }
     {
@@ -57,14 +57,14 @@ impl Bytes {
         self.items.len()
     }
 
-    /// Whether there are none.
+    /// Whether the list is empty.
     pub fn is_empty(&self) -> bool
         ensures { result ≡ (length self.now == 0) }
     {
         self.items.is_empty()
     }
 
-    /// Adds these bytes at the end.
+    /// Appends these bytes.
     pub fn extend_from_slice(&mut self, bytes: &[u8]) -> Result<(), AllocError>
         ensures ok { OnOk result (self.new ≡ self.old ++ bytes.now) }
         ensures err { OnErr result (self.new ≡ self.old) }
@@ -73,7 +73,7 @@ impl Bytes {
     }
 }
 
-/// Takes no memory.
+/// Does not allocate.
 impl From<Vec<u8>> for Bytes {
     ghost from_gives = { λ items bytes. bytes ≡ items.items };
 
@@ -82,7 +82,7 @@ impl From<Vec<u8>> for Bytes {
     }
 }
 
-/// Takes no memory.
+/// Does not allocate.
 impl From<Bytes> for Vec<u8> {
     ghost from_gives = { λ bytes items. items.items ≡ bytes };
 

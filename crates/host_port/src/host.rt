@@ -6,16 +6,16 @@ ghost use Rattle.host_port.specs.Told.{Opened, Gives, Stored, moved, spoken, nam
 ghost use Rattle.host_port.specs.HostState.{HostState, OnlyOpens, OnlyReads, OnlyPuts, OnlySays};
 ghost use Rattle.host_port.specs.Faults.{Counted, IfFailed, NeedsNone};
 
-/// Why a call of a host did nothing.
+/// Why a host call failed; it has then changed nothing.
 #[derive(Clone, Copy, Debug, PartialEq, Eq)]
 pub enum HostFault {
     /// The outside failed; the count of this kind of fault rose in the call.
     Failed,
-    /// There was no memory for it. Nothing has changed.
+    /// There was no memory for it.
     OutOfMemory,
 }
 
-/// What the program can do to the outside.
+/// The operations of the program on files and output.
 ///
 /// What contracts see of a host is one value, its `state`: what it tells of the outside, each part told or not told;
 /// three counts, which never fall, of faults of reading (a failed `open_input` or `read`), of putting and of saying;

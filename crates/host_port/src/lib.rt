@@ -8,6 +8,7 @@ mod host;
 mod lists;
 mod mem_host;
 mod real_host;
+mod seq;
 mod text;
 
 pub use bytes::Bytes;
@@ -16,4 +17,5 @@ pub use host::{Host, HostFault};
 pub use lists::{HostFiles, Numbers, Paths};
 pub use mem_host::MemHost;
 pub use real_host::RealHost;
+pub use seq::Seq;
 pub use text::Text;

@@ -36,7 +36,7 @@ impl Text {
         Ok(Text { string })
     }
 
-    /// The text, to be read.
+    /// The text as a `&str`.
     pub fn as_str(&self) -> &str
         ensures value { result.now ≡ self.now }
         ensures utf8 { IsUtf8 self.now }
@@ -59,7 +59,7 @@ impl Text {
     }
 }
 
-/// Takes no memory.
+/// Does not allocate.
 impl From<String> for Text {
     ghost from_gives = { λ string text. text ≡ string_bytes string };
 
@@ -68,7 +68,7 @@ impl From<String> for Text {
     }
 }
 
-/// Takes no memory.
+/// Does not allocate.
 impl From<Text> for String {
     ghost from_gives = { λ text string. string_bytes string ≡ text };
 

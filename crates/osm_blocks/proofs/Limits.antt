@@ -8,15 +8,15 @@ use Rattle.osm_model.specs.Extract.{AreWithin, refs_in, members_in, tags_in, tag
 use Rattle.osm_model.specs.declared.nodes.OsmNode.{OsmNode}
 use Rattle.osm_model.specs.declared.ways.OsmWay.{OsmWay}
 use Rattle.osm_model.specs.declared.relations.OsmRelation.{OsmRelation}
-use Rattle.osm_blocks.specs.declared.fault.Counted.TheVariants as counted
 use Rattle.osm_blocks.specs.Extracts.{AreDistinct, node_id, way_id, relation_id}
 use Rattle.osm_blocks.specs.Steps.{AreInOrder}
 use Rattle.osm_blocks.proofs.Twice.{in_order_unlike}
 use Rattle.osm_objects.specs.Objects.{Objects}
-use Rattle.osm_blocks.specs.Counts.{Count, as_u64, counts_of, first_past}
+use Rattle.osm_model.specs.declared.limits.TheConstants.{MOST_NODES, MOST_WAYS, MOST_RELATIONS, MOST_REFS, MOST_MEMBERS, MOST_TAGS}
+use Rattle.osm_blocks.specs.Counts.{Count, as_u64, limited_counts, counts_of, first_past}
 
 -- no count of the list is past its limit
-abbrev AllWithin : List Count → Type 0
+abbrev pub AllWithin : List Count → Type 0
 AllWithin [] = Unit {0}
 AllWithin (count ∷ counts) = (count.found ≤ count.most) × AllWithin counts
 
@@ -41,26 +41,19 @@ pub are_within : (objects : Objects) → first_past (counts_of objects) ≡ None
 are_within objects e =
     let all = all_within (counts_of objects) e in
     record {
-      node_limit = below (length objects.nodes) 10_000_000 all.0 (omega arith);
-      way_limit = below (length objects.ways) 2_000_000 all.1.0 (omega arith);
-      relation_limit = below (length objects.relations) 500_000 all.1.1.0 (omega arith);
-      ref_limit = below (refs_in objects.ways) 20_000_000 all.1.1.1.0 (omega arith);
-      member_limit = below (members_in objects.relations) 20_000_000 all.1.1.1.1.0 (omega arith);
-      tag_limit = below (tags_in objects.nodes objects.ways objects.relations) 20_000_000 all.1.1.1.1.1.0 (omega arith);
+      node_limit = below (length objects.nodes) MOST_NODES all.0 (omega arith);
+      way_limit = below (length objects.ways) MOST_WAYS all.1.0 (omega arith);
+      relation_limit = below (length objects.relations) MOST_RELATIONS all.1.1.0 (omega arith);
+      ref_limit = below (refs_in objects.ways) MOST_REFS all.1.1.1.0 (omega arith);
+      member_limit = below (members_in objects.relations) MOST_MEMBERS all.1.1.1.1.0 (omega arith);
+      tag_limit = below (tags_in objects.nodes objects.ways objects.relations) MOST_TAGS all.1.1.1.1.1.0 (omega arith);
     }
 
 -- ---- the same objects in another order
 
 -- so many of each kind
 abbrev six : ℕ → ℕ → ℕ → ℕ → ℕ → ℕ → List Count
-six nodes ways relations refs members tags =
-    record { what = counted.Nodes; found = as_u64 nodes; most = 10_000_000 }
-    ∷ record { what = counted.Ways; found = as_u64 ways; most = 2_000_000 }
-    ∷ record { what = counted.Relations; found = as_u64 relations; most = 500_000 }
-    ∷ record { what = counted.Refs; found = as_u64 refs; most = 20_000_000 }
-    ∷ record { what = counted.Members; found = as_u64 members; most = 20_000_000 }
-    ∷ record { what = counted.Tags; found = as_u64 tags; most = 20_000_000 }
-    ∷ []
+six nodes ways relations refs members tags = limited_counts (as_u64 nodes) (as_u64 ways) (as_u64 relations) (as_u64 refs) (as_u64 members) (as_u64 tags)
 
 six_same : {a b c d e f a' b' c' d' e' f' : ℕ} → a ≡ a' → b ≡ b' → c ≡ c' → d ≡ d' → e ≡ e' → f ≡ f' → six a b c d e f ≡ six a' b' c' d' e' f'
 six_same p q r s t u = cc

@@ -6,11 +6,7 @@ use Rattle.std.proofs.lemmas.Bool.Decides.{nat_tests}
 use Rattle.osm_model.specs.Extract.{AreWithin}
 use Rattle.osm_objects.specs.Objects.{Objects}
 use Rattle.osm_blocks.specs.Counts.{Count, as_u64, counts_of, first_past}
-
--- no count of the list is past its limit
-abbrev AllWithin : List Count → Type 0
-AllWithin [] = Unit {0}
-AllWithin (count ∷ counts) = (count.found ≤ count.most) × AllWithin counts
+use Rattle.osm_blocks.proofs.Limits.{AllWithin}
 
 first_past-none : (counts : List Count) → AllWithin counts → first_past counts ≡ None
 first_past-none [] all = refl

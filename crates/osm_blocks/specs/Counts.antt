@@ -3,6 +3,7 @@ use Rattle.std.specs.Prelude.{ℕ, ◌-◌, ◌^◌, min, nat_lt, List, [], ◌�
 use Rattle.std.specs.List.{find}
 use Rattle.std.specs.Option.{option_map}
 use Rattle.osm_model.specs.Extract.{refs_in, members_in, tags_in}
+use Rattle.osm_model.specs.declared.limits.TheConstants.{MOST_NODES, MOST_WAYS, MOST_RELATIONS, MOST_REFS, MOST_MEMBERS, MOST_TAGS}
 use Rattle.osm_objects.specs.Objects.{Objects}
 use Rattle.osm_blocks.specs.declared.fault.Counted.{Counted}
 use Rattle.osm_blocks.specs.declared.fault.Counted.TheVariants as counted
@@ -17,15 +18,27 @@ pub record Count : Type 0 where
 abbrev pub as_u64 : ℕ → ℕ
 as_u64 n = min (2 ^ 64 - 1) n
 
+-- so many of each, with their limits, in the order in which they are looked at
+abbrev pub limited_counts : ℕ → ℕ → ℕ → ℕ → ℕ → ℕ → List Count
+limited_counts nodes ways relations refs members tags =
+    record { what = counted.Nodes; found = nodes; most = MOST_NODES }
+    ∷ record { what = counted.Ways; found = ways; most = MOST_WAYS }
+    ∷ record { what = counted.Relations; found = relations; most = MOST_RELATIONS }
+    ∷ record { what = counted.Refs; found = refs; most = MOST_REFS }
+    ∷ record { what = counted.Members; found = members; most = MOST_MEMBERS }
+    ∷ record { what = counted.Tags; found = tags; most = MOST_TAGS }
+    ∷ []
+
+-- the counts of objects
 abbrev pub counts_of : Objects → List Count
 counts_of objects =
-    record { what = counted.Nodes; found = as_u64 (length objects.nodes); most = 10_000_000 }
-    ∷ record { what = counted.Ways; found = as_u64 (length objects.ways); most = 2_000_000 }
-    ∷ record { what = counted.Relations; found = as_u64 (length objects.relations); most = 500_000 }
-    ∷ record { what = counted.Refs; found = as_u64 (refs_in objects.ways); most = 20_000_000 }
-    ∷ record { what = counted.Members; found = as_u64 (members_in objects.relations); most = 20_000_000 }
-    ∷ record { what = counted.Tags; found = as_u64 (tags_in objects.nodes objects.ways objects.relations); most = 20_000_000 }
-    ∷ []
+    limited_counts
+    (as_u64 (length objects.nodes))
+    (as_u64 (length objects.ways))
+    (as_u64 (length objects.relations))
+    (as_u64 (refs_in objects.ways))
+    (as_u64 (members_in objects.relations))
+    (as_u64 (tags_in objects.nodes objects.ways objects.relations))
 
 -- the first count that is past its limit: of what, and how many were found
 abbrev pub first_past : List Count → Option (Counted × ℕ)

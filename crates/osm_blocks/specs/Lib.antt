@@ -8,3 +8,4 @@ pub mod ReadAnswers
 pub mod FileContent
 pub mod FaultLines
 pub mod FileFaults
+pub mod WorkedCounts

@@ -1,6 +1,7 @@
 -- Objects in order of id, and ids that stand twice.
-use Rattle.std.specs.Prelude.{◌≤◌, ◌<ℤ◌, ◌≤ℤ◌, ℕ, ℤ, List, AllPairs, IsPermutation, count_by}
+use Rattle.std.specs.Prelude.{◌≤◌, ◌≤ℤ◌, ℕ, ℤ, List, IsPermutation, count_by}
 use Rattle.std.specs.Ordering.{int_eq}
+use Rattle.osm_model.specs.Extract.{IdsRise}
 
 -- how many objects have this id
 abbrev pub times : {A : Type 0} → (A → ℤ) → List A → ℤ → ℕ
@@ -9,7 +10,7 @@ times id_of all id = count_by (λ object. int_eq (id_of object) id) all
 -- The list has exactly these objects, in order of id, each id once.
 pub record InOrder {A : Type 0} (id_of : A → ℤ) (all list : List A) : Type 0 where
   pub same : IsPermutation all list
-  pub rises : AllPairs (λ a b. id_of a <ℤ id_of b) list
+  pub rises : IdsRise id_of list
 
 -- no two of them have one id
 abbrev pub AreUnlike : {A : Type 0} → (A → ℤ) → List A → Type 0

@@ -9,12 +9,11 @@ use Rattle.osm_model.specs.declared.relations.MemberKind.{MemberKind}
 use Rattle.osm_objects.specs.Objects.{Objects, joined}
 use Rattle.osm_objects.specs.Seen.{seen_objects}
 use Rattle.osm_blocks.specs.declared.draft.Draft.{Draft as ProgramDraft}
-use Rattle.osm_blocks.specs.declared.fault.Counted.TheVariants as counted
 use Rattle.osm_blocks.specs.declared.counts.Counts.{Counts}
 use Rattle.osm_blocks.specs.declared.fault.ExtractFault.{ExtractFault}
 use Rattle.osm_blocks.specs.Faults.{is_of_bytes}
 use Rattle.osm_blocks.specs.Order.{InOrder, IsLeastTwice}
-use Rattle.osm_blocks.specs.Counts.{Count}
+use Rattle.osm_blocks.specs.Counts.{Count, limited_counts}
 use Rattle.osm_blocks.specs.Extracts.{◌>>=◌, Draft, EndsWith, IsFinished, IsFirstTwice, lists_of, node_id, way_id, relation_id}
 
 -- what has been read, as the definitions see it
@@ -43,7 +42,7 @@ AddsObjects old new (Err fault) given = Where (is_of_bytes fault) (given ≡ Err
 
 -- ---- order
 
--- the first id that the next one is too
+-- the first id that occurs twice in a row
 abbrev pub next_twice : {A : Type 0} → (A → ℤ) → List A → Option ℤ
 next_twice id_of [] = None
 next_twice id_of (x ∷ []) = None
@@ -72,15 +71,8 @@ OrdersAll old new (Some (kind, id)) = IsFirstTwice old kind id
 -- ---- counts
 
 -- the program's counts, each with its limit
-abbrev pub listed : Counts → List Count
-listed counts =
-    record { what = counted.Nodes; found = counts.nodes; most = 10_000_000 }
-    ∷ record { what = counted.Ways; found = counts.ways; most = 2_000_000 }
-    ∷ record { what = counted.Relations; found = counts.relations; most = 500_000 }
-    ∷ record { what = counted.Refs; found = counts.refs; most = 20_000_000 }
-    ∷ record { what = counted.Members; found = counts.members; most = 20_000_000 }
-    ∷ record { what = counted.Tags; found = counts.tags; most = 20_000_000 }
-    ∷ []
+abbrev pub counts_found : Counts → List Count
+counts_found counts = limited_counts counts.nodes counts.ways counts.relations counts.refs counts.members counts.tags
 
 -- ---- the end
 

@@ -4,23 +4,13 @@ ghost use Rattle.std.specs.Prelude.{◌≡◌};
 ghost use Rattle.osm_model.specs.Extract.{refs_in, members_in, tags_of_ways, tags_of_relations};
 ghost use Rattle.osm_objects.specs.Seen.{seen_objects};
 ghost use Rattle.osm_blocks.specs.Counts.{as_u64, counts_of, first_past};
-ghost use Rattle.osm_blocks.specs.Steps.{listed};
+ghost use Rattle.osm_blocks.specs.Steps.{counts_found};
 
 use crate::fault::Counted;
-use osm_model::{Relations, Ways};
+use osm_model::{
+    MOST_MEMBERS, MOST_NODES, MOST_REFS, MOST_RELATIONS, MOST_TAGS, MOST_WAYS, Relations, Ways,
+};
 use osm_objects::ObjectLists;
-
-const MOST_NODES: u64 = 10_000_000;
-
-const MOST_WAYS: u64 = 2_000_000;
-
-const MOST_RELATIONS: u64 = 500_000;
-
-const MOST_REFS: u64 = 20_000_000;
-
-const MOST_MEMBERS: u64 = 20_000_000;
-
-const MOST_TAGS: u64 = 20_000_000;
 
 /// How many objects of each kind there are, and how many refs, members and tags they have. A count that is past the
 /// greatest number of 64 bits is that number.
@@ -66,7 +56,7 @@ fn count_relations(relations: &Relations) -> (u64, u64)
 
 /// Counts all objects, in one pass.
 pub fn count(lists: &ObjectLists) -> Counts
-    ensures { listed result ≡ counts_of (seen_objects lists.now) }
+    ensures { counts_found result ≡ counts_of (seen_objects lists.now) }
 {
     let node_tags = lists.nodes.count_tags();
     let (refs, way_tags) = count_ways(&lists.ways);
@@ -85,7 +75,7 @@ pub fn count(lists: &ObjectLists) -> Counts
 
 /// The first count that is past its limit: of what, and how many were found.
 pub fn first_past(counts: &Counts) -> Option<(Counted, u64)>
-    ensures { result ≡ first_past (listed counts.now) }
+    ensures { result ≡ first_past (counts_found counts.now) }
 {
     if counts.nodes > MOST_NODES {
         return Some((Counted::Nodes, counts.nodes));

@@ -74,7 +74,7 @@ pub enum ExtractFault {
     BadNumber { at: u64 },
 }
 
-/// What a fault of the framing is to a reader of extracts.
+/// Converts a framing fault into an extract fault.
 impl From<PbfFault> for ExtractFault {
     ghost from_gives = { λ fault made. made ≡ framed_as fault };
 
@@ -95,7 +95,7 @@ impl From<PbfFault> for ExtractFault {
     }
 }
 
-/// What a fault of a block's messages is.
+/// Converts a fault of a block's messages into an extract fault.
 pub fn spelled(fault: MessageFault) -> ExtractFault
     ensures { result ≡ spelled_as fault }
 {
@@ -106,7 +106,7 @@ pub fn spelled(fault: MessageFault) -> ExtractFault
     }
 }
 
-/// What a fault of a block's objects is.
+/// Converts a fault of a block's objects into an extract fault.
 pub fn meant(fault: ObjectFault) -> ExtractFault
     ensures { result ≡ meant_as fault }
 {

@@ -7,7 +7,7 @@ ghost use Rattle.osm_blocks.specs.Steps.{next_twice, Orders};
 use osm_model::{Nodes, Relations, Ways};
 use std::alloc::{AllocError, Global};
 
-/// The first id of a node that the next one has too.
+/// The first node id that occurs twice in a row.
 fn node_twice(nodes: &Nodes) -> Option<i64>
     ensures { result ≡ next_twice node_id nodes.now }
 {
@@ -20,7 +20,7 @@ fn node_twice(nodes: &Nodes) -> Option<i64>
     None
 }
 
-/// Puts nodes in order of id, or finds the least id that stands twice. A list that is in order already, as in nearly all
+/// Sorts nodes by id, or finds the least id that stands twice. A list that is in order already, as in nearly all
 /// files, is looked through once.
 pub fn order_nodes(alloc: Global, nodes: &mut Nodes) -> Result<Option<i64>, AllocError>
     ensures { IfOk result (λ found. Orders node_id nodes.old nodes.new found) }
@@ -32,7 +32,7 @@ pub fn order_nodes(alloc: Global, nodes: &mut Nodes) -> Result<Option<i64>, Allo
     Ok(node_twice(nodes))
 }
 
-/// The first id of a way that the next one has too.
+/// The first way id that occurs twice in a row.
 fn way_twice(ways: &Ways) -> Option<i64>
     ensures { result ≡ next_twice way_id ways.now }
 {
@@ -45,8 +45,8 @@ fn way_twice(ways: &Ways) -> Option<i64>
     None
 }
 
-/// Puts ways in order of id, or finds the least id that stands twice. A list that is in order already, as in nearly all
-/// files, is looked through once. Takes no memory.
+/// Sorts ways by id, or finds the least id that stands twice. A list that is in order already, as in nearly all
+/// files, is looked through once. Does not allocate.
 pub fn order_ways(ways: &mut Ways) -> Option<i64>
     ensures { Orders way_id ways.old ways.new result }
 {
@@ -57,7 +57,7 @@ pub fn order_ways(ways: &mut Ways) -> Option<i64>
     way_twice(ways)
 }
 
-/// The first id of a relation that the next one has too.
+/// The first relation id that occurs twice in a row.
 fn relation_twice(relations: &Relations) -> Option<i64>
     ensures { result ≡ next_twice relation_id relations.now }
 {
@@ -70,8 +70,8 @@ fn relation_twice(relations: &Relations) -> Option<i64>
     None
 }
 
-/// Puts relations in order of id, or finds the least id that stands twice. A list that is in order already, as in nearly all
-/// files, is looked through once. Takes no memory.
+/// Sorts relations by id, or finds the least id that stands twice. A list that is in order already, as in nearly all
+/// files, is looked through once. Does not allocate.
 pub fn order_relations(relations: &mut Relations) -> Option<i64>
     ensures { Orders relation_id relations.old relations.new result }
 {

@@ -2,9 +2,9 @@
 use Rattle.std.proofs.Common.{◌≡◌, inl, inr, ℕ, suc, ◌+◌, ◌<◌, ◌≤◌, ◌^◌, refl, sym, ◌∙◌, ap, subst, get_or, List, [], ◌∷◌, ◌++◌, length, map, take, arith, pos}
 use Rattle.std.specs.Prelude.{All, slice_range, IsPermutation}
 use Rattle.std.specs.List.Sorted.{IsSortedByKey}
-use Rattle.std.specs.Ordering.{int_cmp, is_lt}
+use Rattle.std.specs.Ordering.{int_cmp}
 use Rattle.std.proofs.lemmas.List.Sorted.{IsPermutation-map, length_permutation}
-use Rattle.std.proofs.lemmas.List.{map-append, get_or-map, length-map, length-append, length-take, take_more}
+use Rattle.std.proofs.lemmas.List.{map-append, length-append, length-take, take_more}
 use Rattle.std.proofs.lemmas.List.Elements.{All-push}
 use Rattle.osm_model.specs.declared.tags.Tag.{Tag}
 use Rattle.osm_model.specs.declared.nodes.OsmNode.{OsmNode}
@@ -14,6 +14,7 @@ use Rattle.osm_model.specs.declared.node_order.PlacedSpot.{PlacedSpot}
 use Rattle.osm_model.specs.NodeRows.{tags_at, node_of, nodes_from, HasNone, IsSpan, AreNodes, AreSpans}
 use Rattle.osm_model.specs.NodeOrder.{placed_from, placed_node, AddsSpan, IsInOrder}
 use Rattle.osm_model.proofs.TextLemmas.{grew_none, grew_by}
+use Rattle.osm_model.proofs.RowOrder.{objects_sorted}
 use Rattle.osm_model.proofs.NodeLemmas.{none_at, some_at, bare_behind, spans_kept, nodes_push, nodes_other, tags_last, none_yet, rise_more, wider}
 
 pub placed_more : (i : ℕ) (spots : List Spot) (spot : Spot) → placed_from i (spots ++ spot ∷ []) ≡ placed_from i spots ++ record { spot = spot; place = i + length spots } ∷ []
@@ -117,14 +118,7 @@ moved_nodes old tags spans spots spots' spans' placed e are same made =
 placed_sorted : (tags : List Tag) (spans : List TagSpan) (placed : List PlacedSpot) → IsSortedByKey (λ one. one.spot.id) int_cmp placed → IsSortedByKey (λ node. node.id) int_cmp (map (placed_node tags spans) placed)
 placed_sorted tags spans placed sorted =
     let none : PlacedSpot = record { spot = record { id = pos 0; lat = pos 0; lon = pos 0 }; place = 0 } in
-    λ k d low high.
-    let within : k + 1 < length placed = omega (arith, high, length-map placed (placed_node tags spans)) in
-    let at : get_or (map (placed_node tags spans) placed) (k + 1) d ≡ placed_node tags spans (get_or placed (k + 1) none) =
-    get_or-map (placed_node tags spans) placed (k + 1) none d within in
-    let before : get_or (map (placed_node tags spans) placed) k d ≡ placed_node tags spans (get_or placed k none) =
-    get_or-map (placed_node tags spans) placed k none d (omega (arith, within)) in
-    ap (λ w. is_lt (int_cmp w.id (get_or (map (placed_node tags spans) placed) k d).id)) at ∙
-    (ap (λ w. is_lt (int_cmp (get_or placed (k + 1) none).spot.id w.id)) before ∙ sorted k none low within)
+    objects_sorted (placed_node tags spans) (λ one. one.spot.id) (λ node. node.id) none (λ one. refl) placed sorted
 
 pub sorted_nodes : (tags : List Tag) (spans : List TagSpan) (spots' : List Spot) (spans' : List TagSpan) (placed : List PlacedSpot) → AreSpans tags spans → IsSortedByKey (λ one. one.spot.id) int_cmp placed → IsInOrder spans placed spots' spans' → IsSortedByKey (λ node. node.id) int_cmp (nodes_from tags spans' 0 spots')
 sorted_nodes tags spans spots' spans' placed are sorted made =

@@ -1,11 +1,11 @@
 -- Relations stay as they are where tags and members are added after theirs.
-use Rattle.std.proofs.Common.{◌≡◌, ℕ, ℤ, ◌<◌, ◌≤◌, refl, sym, ◌∙◌, ap, subst, get_or, ◌+◌, List, [], ◌∷◌, ◌++◌, length, map, arith}
+use Rattle.std.proofs.Common.{◌≡◌, ℕ, ℤ, ◌≤◌, refl, sym, ◌∙◌, ap, subst, ◌+◌, List, [], ◌∷◌, ◌++◌, length, map, arith}
 use Rattle.std.specs.Prelude.{Bool, true, false, All, slice_range, IsPermutation, pos}
 use Rattle.std.specs.List.Sorted.{IsSortedByKey}
-use Rattle.std.specs.Ordering.{int_cmp, is_lt}
+use Rattle.std.specs.Ordering.{int_cmp}
 use Rattle.std.proofs.lemmas.List.Sorted.{IsPermutation-map, All-permutation, sum_by-IsPermutation}
 use Rattle.std.proofs.lemmas.List.Sums.{sum_by_push}
-use Rattle.std.proofs.lemmas.List.{map-append, get_or-map, length-map, length-append}
+use Rattle.std.proofs.lemmas.List.{map-append, length-append}
 use Rattle.std.proofs.lemmas.List.Elements.{All-head, All-tail, All-push}
 use Rattle.osm_model.specs.declared.tags.Tag.{Tag}
 use Rattle.osm_model.specs.declared.relations.Member.{Member}
@@ -14,6 +14,7 @@ use Rattle.osm_model.specs.declared.relations.RelationRow.{RelationRow}
 use Rattle.osm_model.specs.Extract.{members_in, tags_of_relations}
 use Rattle.osm_model.specs.RelationRows.{relation_of, IsInside, AreInside, AreOwn, AreRelations}
 use Rattle.osm_model.specs.Grew.{Grew}
+use Rattle.osm_model.proofs.RowOrder.{objects_sorted}
 use Rattle.osm_model.proofs.TextLemmas.{part_append, part_end, grew_longer}
 
 relations_append : (tags more : List Tag) (members most : List Member) (rows : List RelationRow) → AreInside tags members rows → map (relation_of (tags ++ more) (members ++ most)) rows ≡ map (relation_of tags members) rows
@@ -47,14 +48,7 @@ rows_moved old tags members rows rows' e same =
 pub rows_sorted : (tags : List Tag) (members : List Member) (rows : List RelationRow) → IsSortedByKey (λ row. row.id) int_cmp rows → IsSortedByKey (λ relation. relation.id) int_cmp (map (relation_of tags members) rows)
 rows_sorted tags members rows sorted =
     let none : RelationRow = record { id = pos 0; tags_from = 0; tags_to = 0; members_from = 0; members_to = 0 } in
-    λ k d low high.
-    let within : k + 1 < length rows = omega (arith, high, length-map rows (relation_of tags members)) in
-    let at : get_or (map (relation_of tags members) rows) (k + 1) d ≡ relation_of tags members (get_or rows (k + 1) none) =
-    get_or-map (relation_of tags members) rows (k + 1) none d within in
-    let before : get_or (map (relation_of tags members) rows) k d ≡ relation_of tags members (get_or rows k none) =
-    get_or-map (relation_of tags members) rows k none d (omega (arith, within)) in
-    ap (λ w. is_lt (int_cmp w.id (get_or (map (relation_of tags members) rows) k d).id)) at ∙
-    (ap (λ w. is_lt (int_cmp (get_or rows (k + 1) none).id w.id)) before ∙ sorted k none low within)
+    objects_sorted (relation_of tags members) (λ row. row.id) (λ relation. relation.id) none (λ row. refl) rows sorted
 
 -- ---- tags and members that are those of the relations
 

@@ -40,7 +40,7 @@ impl Model for MemberRows {
 }
 
 impl MemberRows {
-    /// No member yet. Takes no memory.
+    /// An empty list. Does not allocate.
     pub fn new(alloc: Global) -> MemberRows
         ensures { result ≡ [] }
     {

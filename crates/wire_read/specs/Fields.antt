@@ -218,7 +218,7 @@ pub record Listed (A : Type 0) : Type 0 where
 abbrev pub with_item : {A : Type 0} → A → Listed A → Listed A
 with_item item list = record { items = item ∷ list.items; fault = list.fault }
 
--- what so many bytes give, where this is what begins them and this is what fewer bytes give
+-- the list that `count` bytes give, from the first item and the list of the rest
 abbrev pub after_item : {A : Type 0} → ℕ → ℕ → Result (A × List ℕ) WireFault → (ℕ → List ℕ → Listed A) → Listed A
 after_item at count (Ok first) others = with_item first.0 (others (at + (count - length first.1)) first.1)
 after_item at count (Err fault) others = record { items = []; fault = Some fault }

@@ -33,7 +33,7 @@ pub struct Field<'a> {
 }
 
 #[tactic(auto, unfolding(crate::specs::Fields::part_at))]
-/// So many bytes and those after them.
+/// Splits off the first `count` bytes.
 fn read_part(bytes: &[u8], at: u64, count: u64) -> Result<(&[u8], &[u8]), WireFault>
     ensures part { IfOk result (λ found. part_at at count bytes.now ≡ Ok (found.0.now, found.1.now)) }
     ensures lengths { IfOk result (λ found. length found.1.now + length found.0.now ≡ length bytes.now) }
