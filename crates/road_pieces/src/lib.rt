@@ -5,6 +5,7 @@ mod counts;
 mod courses;
 mod crossings;
 mod cutting;
+mod dir_key;
 mod fault_lines;
 mod faults;
 mod laws;
@@ -20,6 +21,7 @@ mod steps;
 mod survey;
 
 pub use cutting::cut;
+pub use dir_key::DirKey;
 pub use fault_lines::cut_fault_lines;
 pub use faults::CutFault;
 pub use fixed_geo::Shape;

@@ -1,0 +1,6 @@
+mod Packed
+mod Bools
+mod EdgeBack
+mod NodeBack
+mod NodesOver
+mod TilePut

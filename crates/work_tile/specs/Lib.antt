@@ -1,0 +1,4 @@
+pub mod PackedRows
+pub mod EdgeWords
+pub mod NodeWords
+pub mod WorkRows
