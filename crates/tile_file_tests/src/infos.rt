@@ -1,6 +1,9 @@
 //! Worked rows: the infos of a tile with one road, and bytes that are none. The bytes and the offsets are counted by
 //! hand.
-use edge_info::{Info, InfoFault, InfoSet, InfoView, Infos, entries_law, entry_starts, infos_law, is_start, padding_law, read_infos, texts_law, write_infos};
+use edge_info::{
+    Info, InfoFault, InfoSet, InfoView, Infos, entries_law, entry_starts, infos_law, is_start,
+    padding_law, read_infos, texts_law, write_infos,
+};
 use fixed_geo::{Point, Shape};
 use osm_model::{PieceKey, Seq};
 use std::alloc::{AllocError, Global};

@@ -1,6 +1,6 @@
 //! Worked rows: the records of a tile with one road of two nodes, and words with spare bits.
-use tile_records::{EdgeRec, NodeRec, edge_law, node_law};
 use std::test::Fail;
+use tile_records::{EdgeRec, NodeRec, edge_law, node_law};
 
 /// The words of the road's two nodes and of its two directed edges.
 const NODES: [[u64; 4]; 2] = [

@@ -1,8 +1,8 @@
 //! The tile of a road between two nodes, a tile with an item in each section, and files that are broken in a word or two.
-use tile_bytes::{TileFault, read_tile, write_tile};
 use section_grammar::{cut, push_word};
 use std::alloc::{AllocError, Global};
 use std::test::Fail;
+use tile_bytes::{TileFault, read_tile, write_tile};
 
 /// The nodes 1 and 2, and both directed edges of the way 10 between them.
 const ROAD: [u64; 29] = [
