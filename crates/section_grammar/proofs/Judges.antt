@@ -3,7 +3,7 @@ use Rattle.std.proofs.Common.{◌≡◌, ℕ, suc, ◌<◌, ◌≤◌, Bool, tru
 use Rattle.std.proofs.lemmas.Bool.{cases_lt}
 use Rattle.section_grammar.specs.Reads.{◌>>=◌}
 use Rattle.section_grammar.specs.Answers.{FailedCheck, Check}
-use Rattle.section_grammar.specs.FirstFailing.{IsFirst}
+use Rattle.section_grammar.specs.FirstFailing.{IsFirstToFail}
 use Rattle.section_grammar.proofs.Tells.{Tells, none_at_ok, place_is, passed}
 
 -- of the checks whose numbers are from one on and below another: which of them the failure is of
@@ -106,13 +106,13 @@ module _ {C : Type 0} (number : C → ℕ) (fails : C → ℕ → Type 0) where
 
   -- all checks: a failure is that of the first, and the first is the failure
   pub first_is : {A : Type 0} (from to : ℕ) (r : Result A FailedCheck) → ((check : C) → (from ≤ number check) × (number check < to)) → Judges number fails from to r → (d : FailedCheck) → r ≡ Err d
-      → (check : C) × (at : ℕ) × IsFirst number fails check at × (d ≡ Check (number check) at)
+      → (check : C) × (at : ℕ) × IsFirstToFail number fails check at × (d ≡ Check (number check) at)
   first_is from to r all judges d e =
       let t = judges.first d e in
       (t.check, t.at, record { fails_here = t.it_fails; no_check_before = λ other place lt f. t.none_before other place (all other).0 lt f; no_place_before = t.no_place }, t.said)
 
   pub first_said : {A : Type 0} (from to : ℕ) (r : Result A FailedCheck) → ((check : C) → (from ≤ number check) × (number check < to)) → ((a b : C) → number a ≡ number b → a ≡ b) → Judges number fails from to r
-      → (check : C) (at : ℕ) → IsFirst number fails check at → r ≡ Err (Check (number check) at)
+      → (check : C) (at : ℕ) → IsFirstToFail number fails check at → r ≡ Err (Check (number check) at)
   first_said from to r all one judges check at first =
       (elim r as (λ s. r ≡ s → s ≡ Err (Check (number check) at)) [
         | Ok x ↦ λ h. absurd (judges.passes x h check at (all check).0 (all check).1 first.fails_here)

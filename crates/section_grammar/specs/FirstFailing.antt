@@ -44,7 +44,7 @@ pub record FailsFrom (from : ℕ) (fails : ℕ → Type 0) (at : ℕ) : Type 0 w
   pub here : at ≡ from + offset
 
 -- Of checks with these numbers this one fails there, none before it fails anywhere, and it fails at no place before.
-pub record IsFirst {C : Type 0} (number : C → ℕ) (fails : C → ℕ → Type 0) (check : C) (at : ℕ) : Type 0 where
+pub record IsFirstToFail {C : Type 0} (number : C → ℕ) (fails : C → ℕ → Type 0) (check : C) (at : ℕ) : Type 0 where
   pub fails_here : fails check at
   pub no_check_before : (other : C) (place : ℕ) → number other < number check → fails other place → ⊥
   pub no_place_before : (place : ℕ) → place < at → fails check place → ⊥

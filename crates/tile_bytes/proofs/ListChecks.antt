@@ -51,7 +51,7 @@ module _ (level end : ℕ) (before : List (List ℕ)) (rest : List ℕ) (fits : 
 
   id_of : (8 ≤ length rest) → (2 ≤ word_in rest) → (8 * word_in rest ≤ length (drop 8 rest)) → (at : ℕ) → Fault at → FailsFrom (place_of end (drop 8 rest)) (IdFails (rules.Only level) (word_in rest) (drop 8 rest)) at
   id_of whole two room at f = elim f.fails_so [
-    | inl c ↦ absurd (elim c.wrong [ | inl a ↦ omega (arith, a, whole) | inr w ↦ elim w [ | inl a ↦ omega (arith, a, two) | inr a ↦ omega (arith, a, room) ] ])
+    | inl c ↦ absurd (elim c.wrong [ inl a ↦ omega (arith, a, whole) | inr w ↦ elim w [ inl a ↦ omega (arith, a, two) | inr a ↦ omega (arith, a, room) ] ])
     | inr i ↦ record { offset = i.within; fails_so = i.fails_so; here = behind_word end at f.offset i.within rest whole le f.here i.here }
   ]
 
@@ -72,16 +72,16 @@ module _ (level end : ℕ) (before : List (List ℕ)) (rest : List ℕ) (fits : 
       tells_guarded 11 place (ltb (length rest) 8) (cond tests (Err (Check 11 place)) ids) Fault Fault (λ t. no_count (inl (ltb-true _ _ t)))
       (λ t. count_only (λ whole two room. (let cut = ltb-true _ _ t in omega (arith, cut, whole)))) (λ t at f. f) (λ t at f. f)
       (λ t.
-        let whole : 8 ≤ length rest = ltb-false _ _ t in
-        tells_guarded 11 place tests ids Fault (FailsFrom (place_of end (drop 8 rest)) (IdFails (rules.Only level) w (drop 8 rest)))
-        (λ b. elim (or_cases (ltb w 2) (ltb (length (drop 8 rest)) (8 * w)) b) [ | inl a ↦ no_count (inr (inl (ltb-true _ _ a))) | inr a ↦ no_count (inr (inr (ltb-true _ _ a))) ])
-        (λ b. elim (or_cases (ltb w 2) (ltb (length (drop 8 rest)) (8 * w)) b) [
-          | inl a ↦ count_only (λ whole two room. (let few = ltb-true _ _ a in omega (arith, few, two)))
-          | inr a ↦ count_only (λ whole two room. (let short = ltb-true _ _ a in omega (arith, short, room)))
-        ])
-        (λ b. (let p = or_parts (ltb w 2) (ltb (length (drop 8 rest)) (8 * w)) b in id_of whole (ltb-false _ _ p.0) (ltb-false _ _ p.1)))
-        (λ b. (let p = or_parts (ltb w 2) (ltb (length (drop 8 rest)) (8 * w)) b in of_id whole (ltb-false _ _ p.0) (ltb-false _ _ p.1)))
-        (λ b. ids_tell (rules.Only level) 11 end w (drop 8 rest) (IsByteList-drop 8 rest fits) (omega (arith, length-drop 8 rest, le))))
+      let whole : 8 ≤ length rest = ltb-false _ _ t in
+      tells_guarded 11 place tests ids Fault (FailsFrom (place_of end (drop 8 rest)) (IdFails (rules.Only level) w (drop 8 rest)))
+      (λ b. elim (or_cases (ltb w 2) (ltb (length (drop 8 rest)) (8 * w)) b) [ inl a ↦ no_count (inr (inl (ltb-true _ _ a))) | inr a ↦ no_count (inr (inr (ltb-true _ _ a))) ])
+      (λ b. elim (or_cases (ltb w 2) (ltb (length (drop 8 rest)) (8 * w)) b) [
+        | inl a ↦ count_only (λ whole two room. (let few = ltb-true _ _ a in omega (arith, few, two)))
+        | inr a ↦ count_only (λ whole two room. (let short = ltb-true _ _ a in omega (arith, short, room)))
+      ])
+      (λ b. (let p = or_parts (ltb w 2) (ltb (length (drop 8 rest)) (8 * w)) b in id_of whole (ltb-false _ _ p.0) (ltb-false _ _ p.1)))
+      (λ b. (let p = or_parts (ltb w 2) (ltb (length (drop 8 rest)) (8 * w)) b in of_id whole (ltb-false _ _ p.0) (ltb-false _ _ p.1)))
+      (λ b. ids_tell (rules.Only level) 11 end w (drop 8 rest) (IsByteList-drop 8 rest fits) (omega (arith, length-drop 8 rest, le))))
 
 -- ---- where chains begin
 
@@ -191,15 +191,15 @@ section_tells h edges end section fits le =
     tells_either 11 (ChainsFault level end edges section) (FailsFrom from (OffsetFails level edges section)) (chains_at level end count section) (λ chains. offsets_at from edges (chain_offsets 0 chains) >>= λ _. Ok chains)
     (chains_tell level end edges section fits le)
     (λ chains e.
-      let took = chains_take level end count section chains fits e in
-      let offsets = offsets_tell from edges (chain_offsets 0 chains) (offsets-length 0 chains ∙ took.2) in
-      tells_as 11 (FailsFrom from (OffsetDiffers edges (chain_offsets 0 chains))) (FailsFrom from (OffsetFails level edges section)) (offsets_at from edges (chain_offsets 0 chains) >>= λ _. Ok chains)
-      (λ at g. record { offset = g.offset; fails_so = record { chains = chains; each_good = took.0; all = took.2; spelled = took.1; differs = g.fails_so }; here = g.here })
-      (λ at g.
-        let f = g.fails_so in
-        let same : f.chains ≡ chains = ok_is {F = FailedCheck} f.chains chains (sym (reached g.offset f) ∙ e) in
-        record { offset = g.offset; fails_so = subst (λ (c : List (List ℕ)). OffsetDiffers edges (chain_offsets 0 c) g.offset) same f.differs; here = g.here })
-      (tells_bind 11 (FailsFrom from (OffsetDiffers edges (chain_offsets 0 chains))) (offsets_at from edges (chain_offsets 0 chains)) (λ _. chains) offsets))
+    let took = chains_take level end count section chains fits e in
+    let offsets = offsets_tell from edges (chain_offsets 0 chains) (offsets-length 0 chains ∙ took.2) in
+    tells_as 11 (FailsFrom from (OffsetDiffers edges (chain_offsets 0 chains))) (FailsFrom from (OffsetFails level edges section)) (offsets_at from edges (chain_offsets 0 chains) >>= λ _. Ok chains)
+    (λ at g. record { offset = g.offset; fails_so = record { chains = chains; each_good = took.0; all = took.2; spelled = took.1; differs = g.fails_so }; here = g.here })
+    (λ at g.
+    let f = g.fails_so in
+    let same : f.chains ≡ chains = ok_is {F = FailedCheck} f.chains chains (sym (reached g.offset f) ∙ e) in
+    record { offset = g.offset; fails_so = subst (λ (c : List (List ℕ)). OffsetDiffers edges (chain_offsets 0 c) g.offset) same f.differs; here = g.here })
+    (tells_bind 11 (FailsFrom from (OffsetDiffers edges (chain_offsets 0 chains))) (offsets_at from edges (chain_offsets 0 chains)) (λ _. chains) offsets))
     (λ at g. (g.fails_so.chains, reached g.offset g.fails_so))
 
 -- ---- sequences
@@ -222,7 +222,7 @@ module _ (end : ℕ) (before : List Sequence) (rest : List ℕ) (fits : IsByteLi
 
   to_id : (8 ≤ length rest) → (first_word_passes before rest ≡ true) → (at : ℕ) → SequenceFault at → IdFault at
   to_id whole passes at f = elim f.fails_so [
-    | inl c ↦ absurd (elim c.wrong [ | inl a ↦ omega (arith, a, whole) | inr a ↦ (let clash : true ≡ false = sym passes ∙ a in cc) ])
+    | inl c ↦ absurd (elim c.wrong [ inl a ↦ omega (arith, a, whole) | inr a ↦ (let clash : true ≡ false = sym passes ∙ a in cc) ])
     | inr i ↦ record { offset = i.within; fails_so = i.fails_so; here = behind_word end at f.offset i.within rest whole le f.here i.here }
   ]
 
@@ -243,10 +243,10 @@ module _ (end : ℕ) (before : List Sequence) (rest : List ℕ) (fits : IsByteLi
       tells_guarded 12 place (ltb (length rest) 8) (cond (first_word_passes before rest) (ids >>= λ x. Ok (made x)) (Err (Check 12 place))) SequenceFault SequenceFault (λ t. no_first (inl (ltb-true _ _ t)))
       (λ t. first_only (λ whole passes. (let cut = ltb-true _ _ t in omega (arith, cut, whole)))) (λ t at f. f) (λ t at f. f)
       (λ t.
-        let whole : 8 ≤ length rest = ltb-false _ _ t in
-        tells_allowed 12 place (first_word_passes before rest) (ids >>= λ x. Ok (made x)) SequenceFault IdFault (λ b. no_first (inr b))
-        (λ b. first_only (λ whole passes. (let clash : true ≡ false = sym passes ∙ b in cc))) (λ b. to_id whole b) (λ b. from_id whole b)
-        (λ b. tells_bind 12 IdFault ids made (ids_tell rules.Any 12 end (w % 2 ^ 16) (drop 8 rest) (IsByteList-drop 8 rest fits) (omega (arith, length-drop 8 rest, le)))))
+      let whole : 8 ≤ length rest = ltb-false _ _ t in
+      tells_allowed 12 place (first_word_passes before rest) (ids >>= λ x. Ok (made x)) SequenceFault IdFault (λ b. no_first (inr b))
+      (λ b. first_only (λ whole passes. (let clash : true ≡ false = sym passes ∙ b in cc))) (λ b. to_id whole b) (λ b. from_id whole b)
+      (λ b. tells_bind 12 IdFault ids made (ids_tell rules.Any 12 end (w % 2 ^ 16) (drop 8 rest) (IsByteList-drop 8 rest fits) (omega (arith, length-drop 8 rest, le)))))
 
 pub sequences_tell : (end : ℕ) (section : List ℕ) → IsByteList section → length section ≤ end
     → Tells 12 (FailsFrom (place_of end section) (ItemFails sequence_bytes IsTileSequence HasMore SequenceFails section)) (sequences_at end section)

@@ -31,8 +31,37 @@ use Rattle.tile_bytes.specs.Sequences.{sequence_bytes, IsTileSequence, sequences
 use Rattle.tile_bytes.specs.TileSections.{TileRecords, records_at, chains_in_place}
 use Rattle.tile_bytes.specs.TileReading.{TileLists, with_sequences, lists_at, behind_lists, edge_entries_at, with_texts, with_infos, infos_at, tile_with, after_lists, after_records, after_header, tile_at}
 use Rattle.tile_bytes.specs.TileChecks.{
-    TileCheck, ChainsGood, SequencesGood, EntriesGood, EdgesHaveEntries, TextsGood, PaddingZero, check_number, CheckFails, AreTileEdges, AreTileInfos, ChainFails, OffsetFails, SequenceFails, EntryMissing, ChainSectionFails, EdgeEntryFails, TextSectionFails,
-    header_in, from_nodes, from_edges, from_transitions, from_chains, from_sequences, from_infos, from_texts, from_padding, chain_section, sequence_section, info_section, text_section,
+  TileCheck,
+  ChainsGood,
+  SequencesGood,
+  EntriesGood,
+  EdgesHaveEntries,
+  TextsGood,
+  PaddingZero,
+  check_number,
+  CheckFails,
+  AreTileEdges,
+  AreTileInfos,
+  ChainFails,
+  OffsetFails,
+  SequenceFails,
+  EntryMissing,
+  ChainSectionFails,
+  EdgeEntryFails,
+  TextSectionFails,
+  header_in,
+  from_nodes,
+  from_edges,
+  from_transitions,
+  from_chains,
+  from_sequences,
+  from_infos,
+  from_texts,
+  from_padding,
+  chain_section,
+  sequence_section,
+  info_section,
+  text_section,
 }
 use Rattle.tile_bytes.proofs.CheckNumbers.{one_check}
 use Rattle.tile_bytes.proofs.RecordSections.{RecordsGood, records_bytes, records_take, nodes_bytes-length, edges_bytes-length}
@@ -198,12 +227,12 @@ module _ (bytes : List ℕ) (fits : IsByteList bytes) where
         let entries = entries_at (place_of end (from_texts bytes)) h.texts (info_section bytes) in
         judges_bind check_number (CheckFails bytes) 13 14 17 entries (with_infos end h edges (from_texts bytes)) (omega arith) (omega arith) entries_judge
         (λ infos e.
-          let took = entries_found (place_of end (from_texts bytes)) h.texts (info_section bytes) infos (IsByteList-take h.info_bytes (from_infos bytes) fits_infos) e in
-          let are_infos : AreTileInfos bytes infos = record { are_good = took.0; spelled = took.1 } in
-          judges_bind check_number (CheckFails bytes) 14 15 17 (edge_entries_at (64 + 32 * h.nodes) (starts_of infos) edges) (λ _. with_texts end h (from_texts bytes) infos) (omega arith) (omega arith) (edge_entries_judge edges infos are are_infos)
-          (λ u k. judges_bind check_number (CheckFails bytes) 15 16 17 (texts_at (place_of end (from_padding bytes)) (names_of infos) h.texts (text_section bytes))
-          (λ texts. padding_at end (from_padding bytes) >>= λ _. Ok (record { infos = infos; texts = texts })) (omega arith) (omega arith) (texts_judge infos are_infos)
-          (λ texts m. judges_made check_number (CheckFails bytes) 16 17 (padding_at end (from_padding bytes)) (λ _. record { infos = infos; texts = texts }) (omega arith) padding_judge)))
+        let took = entries_found (place_of end (from_texts bytes)) h.texts (info_section bytes) infos (IsByteList-take h.info_bytes (from_infos bytes) fits_infos) e in
+        let are_infos : AreTileInfos bytes infos = record { are_good = took.0; spelled = took.1 } in
+        judges_bind check_number (CheckFails bytes) 14 15 17 (edge_entries_at (64 + 32 * h.nodes) (starts_of infos) edges) (λ _. with_texts end h (from_texts bytes) infos) (omega arith) (omega arith) (edge_entries_judge edges infos are are_infos)
+        (λ u k. judges_bind check_number (CheckFails bytes) 15 16 17 (texts_at (place_of end (from_padding bytes)) (names_of infos) h.texts (text_section bytes))
+        (λ texts. padding_at end (from_padding bytes) >>= λ _. Ok (record { infos = infos; texts = texts })) (omega arith) (omega arith) (texts_judge infos are_infos)
+        (λ texts m. judges_made check_number (CheckFails bytes) 16 17 (padding_at end (from_padding bytes)) (λ _. record { infos = infos; texts = texts }) (omega arith) padding_judge)))
 
     -- ---- the whole
 

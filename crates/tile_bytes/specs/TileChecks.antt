@@ -9,7 +9,7 @@ use Rattle.section_grammar.specs.declared.fault.SectionFault.TheVariants as faul
 use Rattle.section_grammar.specs.WordBytes.{word_in, words_in, word_bytes}
 use Rattle.section_grammar.specs.Reads.{AllGood}
 use Rattle.section_grammar.specs.Answers.{place_of}
-use Rattle.section_grammar.specs.FirstFailing.{IsFewerThan, HasMore, NoneBegins, ItemFails, IsOverfull, FailsFrom, IsFirst}
+use Rattle.section_grammar.specs.FirstFailing.{IsFewerThan, HasMore, NoneBegins, ItemFails, IsOverfull, FailsFrom, IsFirstToFail}
 use Rattle.edge_info.specs.declared.infos.Info.{Info}
 use Rattle.edge_info.specs.Entries.{AreInfos, infos_bytes, names_of, starts_of}
 use Rattle.edge_info.specs.Checks.{EntryFails, TextFails, PaddingFails}
@@ -292,7 +292,7 @@ CheckFails bytes PaddingZero at = PaddingSectionFails bytes at
 
 -- the first check that fails, by number and then by place
 abbrev pub IsFirstFailing : List ℕ → TileCheck → ℕ → Type 0
-IsFirstFailing bytes check at = IsFirst check_number (CheckFails bytes) check at
+IsFirstFailing bytes check at = IsFirstToFail check_number (CheckFails bytes) check at
 
 -- no check fails anywhere
 abbrev pub NoCheckFails : List ℕ → Type 0

@@ -1,5 +1,5 @@
 //! The header of a tile file.
-ghost use Rattle.std.specs.Prelude.{◌≡◌, ◌≤◌, ◌<◌, ◌^◌, ◌+◌, ◌*◌, length, drop, slice_index, is_some, IfSome, IfOk, nat_le, ◌==◌, ◌&&◌, ◌%◌};
+ghost use Rattle.std.specs.Prelude.{◌≡◌, ◌≤◌, ◌<◌, ◌^◌, ◌+◌, ◌*◌, length, drop, slice_index, is_some, IsTrue, IfSome, IfOk, nat_le, ◌==◌, ◌&&◌, ◌%◌};
 ghost use Rattle.std.specs.Int.{w32, cast_unsigned};
 ghost use Rattle.graph_id.specs.GraphId.{level_of};
 ghost use Rattle.section_grammar.specs.WordBytes.{words_in};
@@ -134,7 +134,8 @@ fn few_transitions(header: &Header) -> bool
 
 /// Whether a file of so many bytes has the size that its last word and its sections say, and modes.
 fn has_size(size: u64, last_word: u64, header: &Header) -> bool
-    ensures { result ≡ (last_word % 2 ^ 48 == size && file_size header.now == size && are_modes header.now.modes) }
+    ensures is { result ≡ (last_word % 2 ^ 48 == size && file_size header.now == size && are_modes header.now.modes) }
+    ensures whole { IsTrue result → file_size header.now ≡ size }
 {
     last_word & 0xffff_ffff_ffff == size && file_size(header) == size && are_modes(header.modes)
 }
@@ -145,6 +146,7 @@ pub(crate) fn read_header(bytes: &[u8]) -> Result<Header, SectionFault>
     ensures header { Gives (λ h. (h, drop 64 bytes.now)) result (header_at bytes.now) }
     ensures whole { IfOk result (λ _. 64 ≤ length bytes.now) }
     ensures level { IfOk result (λ h. level_of h.id ≤ 2) }
+    ensures size { IfOk result (λ h. file_size h ≡ length bytes.now) }
 {
     let size = bytes.len() as u64;
     if size < 64 {

@@ -1,5 +1,5 @@
 //! The records of a tile, read one after the other.
-ghost use Rattle.std.specs.Prelude.{◌≡◌, ◌≤◌, ◌<◌, ◌+◌, ◌^◌, ◌++◌, ◌∷◌, [], length, drop, List, IfOk};
+ghost use Rattle.std.specs.Prelude.{◌≡◌, ◌≤◌, ◌<◌, ◌+◌, ◌*◌, ◌^◌, ◌++◌, ◌∷◌, [], length, drop, List, IfOk};
 ghost use Rattle.std.specs.Int.{from_bool};
 ghost use Rattle.tile_records.specs.Nodes.{NodeFields};
 ghost use Rattle.tile_records.specs.Edges.{EdgeFields};
@@ -129,7 +129,7 @@ fn with_node(sums: &Sums, node: &NodeRec) -> Sums
     }
 }
 
-/// So many nodes, and their sums.
+/// So many nodes, and their sums. The file, which ends at `end`, has bytes for them, so that room for them may be reserved.
 pub(crate) fn nodes_of(
     alloc: Global,
     end: u64,
@@ -138,7 +138,8 @@ pub(crate) fn nodes_of(
     count: u32,
     bytes: &[u8],
 ) -> Result<(Vec<NodeRec>, u64, u64, &[u8]), SectionFault>
-    requires { level ≤ 2 }
+    requires level { level ≤ 2 }
+    requires room { 32 * count ≤ end }
     ensures nodes { Gives (λ x. (x.0.items, x.3.now)) result (read_many (node_record_at level tile end) count [] bytes.now) }
     ensures edges { IfOk result (λ x. x.1 ≡ edges_of_nodes x.0.items) }
     ensures transitions { IfOk result (λ x. x.2 ≡ transitions_of_nodes x.0.items) }
@@ -195,7 +196,7 @@ fn shortcuts_at(edge: &EdgeRec) -> u64
     u64::from(edge.shortcut)
 }
 
-/// So many directed edges, and how many of them are shortcuts.
+/// So many directed edges, and how many of them are shortcuts. The file, which ends at `end`, has bytes for them.
 pub(crate) fn edges_of(
     alloc: Global,
     end: u64,
@@ -203,6 +204,7 @@ pub(crate) fn edges_of(
     count: u32,
     bytes: &[u8],
 ) -> Result<(Vec<EdgeRec>, u64, &[u8]), SectionFault>
+    requires room { 32 * count ≤ end }
     ensures edges { Gives (λ x. (x.0.items, x.2.now)) result (read_many (edge_record_at level end) count [] bytes.now) }
     ensures shortcuts { IfOk result (λ x. x.1 ≡ length (named_chains x.0.items)) }
 {

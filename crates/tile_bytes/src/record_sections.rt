@@ -1,7 +1,8 @@
 //! The sections of nodes, edges and transitions, read.
-ghost use Rattle.std.specs.Prelude.{◌≡◌, ◌≤◌, length, IfOk};
+ghost use Rattle.std.specs.Prelude.{◌≡◌, ◌≤◌, ◌*◌, length, IfOk};
 ghost use Rattle.graph_id.specs.GraphId.{level_of};
 ghost use Rattle.section_grammar.specs.Answers.{Gives};
+ghost use Rattle.tile_bytes.specs.Header.{file_size};
 ghost use Rattle.tile_bytes.specs.Chains.{named_chains};
 ghost use Rattle.tile_bytes.specs.TileSections.{nodes_at, edges_at, transitions_at, records_at};
 
@@ -21,7 +22,8 @@ fn all_nodes<'a>(
     header: &Header,
     bytes: &'a [u8],
 ) -> Result<(Vec<NodeRec>, &'a [u8]), SectionFault>
-    requires { level_of header.now.id ≤ 2 }
+    requires level { level_of header.now.id ≤ 2 }
+    requires room { 32 * header.now.nodes ≤ end }
     ensures { Gives (λ x. (x.0.items, x.1.now)) result (nodes_at end header.now bytes.now) }
 {
     let (level, tile) = (header.id.level(), header.id.tile());
@@ -44,6 +46,7 @@ fn all_edges<'a>(
     header: &Header,
     bytes: &'a [u8],
 ) -> Result<(Vec<EdgeRec>, u64, &'a [u8]), SectionFault>
+    requires room { 32 * header.now.edges ≤ end }
     ensures edges { Gives (λ x. (x.0.items, x.2.now)) result (edges_at end header.now bytes.now) }
     ensures shortcuts { IfOk result (λ x. x.1 ≡ length (named_chains x.0.items)) }
 {
@@ -58,6 +61,7 @@ fn all_transitions<'a>(
     header: &Header,
     bytes: &'a [u8],
 ) -> Result<(Vec<GraphId>, &'a [u8]), SectionFault>
+    requires room { 8 * header.now.transitions ≤ end }
     ensures { Gives (λ x. (x.0.items, x.1.now)) result (transitions_at end header.now bytes.now) }
 {
     let count = header.transitions as usize;
@@ -82,7 +86,7 @@ pub(crate) struct Records {
     pub shortcuts: u64,
 }
 
-/// The sections of records.
+/// The sections of records of a file that has the size that its header says.
 #[tactic(auto, unfolding(crate::specs::TileSections::records_at))]
 pub(crate) fn read_records<'a>(
     alloc: Global,
@@ -90,7 +94,8 @@ pub(crate) fn read_records<'a>(
     header: &Header,
     bytes: &'a [u8],
 ) -> Result<(Records, &'a [u8]), SectionFault>
-    requires { level_of header.now.id ≤ 2 }
+    requires level { level_of header.now.id ≤ 2 }
+    requires room { file_size header.now ≤ end }
     ensures records { Gives (λ x. (record { nodes = x.0.nodes.items; edges = x.0.edges.items; transitions = x.0.transitions.items }, x.1.now)) result (records_at end header.now bytes.now) }
     ensures shortcuts { IfOk result (λ x. x.0.shortcuts ≡ length (named_chains x.0.edges.items)) }
 {

@@ -66,9 +66,7 @@ fn header_words(counts: Counts) -> [u64; 8] {
         .wrapping_mul(32)
         .wrapping_add(edges.wrapping_mul(32))
         .wrapping_add(transitions.wrapping_mul(8));
-    let lists = chain_words
-        .wrapping_add(sequence_words)
-        .wrapping_mul(8);
+    let lists = chain_words.wrapping_add(sequence_words).wrapping_mul(8);
     let last = infos.wrapping_add(texts);
     let size = records
         .wrapping_add(lists)
