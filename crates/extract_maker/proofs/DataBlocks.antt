@@ -1,4 +1,4 @@
--- A data block that was written is one with its texts and its object.
+-- A PrimitiveBlock that was written is one with its texts and its object.
 use Rattle.std.proofs.Common.{◌≡◌, ℕ, ◌+◌, ◌^◌, ◌<◌, ◌≤◌, pos, cond, Bool, true, false, List, [], ◌∷◌, ◌++◌, map, length, Option, Some, None, refl, sym, ap, ◌∙◌, subst, arith}
 use Rattle.std.specs.List.{AllByRecursion, filter, cons_option}
 use Rattle.std.proofs.lemmas.List.{append-nil}
@@ -7,7 +7,7 @@ use Rattle.wire_read.specs.Fields.{WireField}
 use Rattle.osm_messages.specs.declared.kind.ObjectKind.{ObjectKind}
 use Rattle.osm_messages.specs.Groups.{Object}
 use Rattle.osm_messages.specs.Blocks.{Block}
-use Rattle.osm_messages.specs.Means.{Part, parts, kind_of, object_by, is_dense_message, dense_among, SpellsObject, IsTable, IsGroup, IsBlock}
+use Rattle.osm_messages.specs.Means.{Part, parts, kind_of_field, object_by, is_dense_nodes, dense_among, SpellsObject, IsStringTable, IsPrimitiveGroup, IsPrimitiveBlock}
 use Rattle.osm_objects.specs.declared.scale.Scale.{Scale}
 use Rattle.osm_objects.specs.Objects.{Objects, no_objects, joined}
 use Rattle.osm_objects.specs.Means.{GivesObjects, AreJoined, IsObjects}
@@ -34,7 +34,7 @@ texts_are : (at : ℕ) (texts : List (List ℕ)) → texts ≡ map (λ (part : P
 texts_are at [] = refl
 texts_are at (text ∷ texts) = ap (λ (l : List (List ℕ)). text ∷ l) (texts_are (at + length (piece_bytes (BytesPiece 1 text))) texts)
 
-pub is_table : (at : ℕ) (texts : List (List ℕ)) → AllByRecursion IsShort texts → IsTable at (table_bytes texts) ([] ∷ texts)
+pub is_table : (at : ℕ) (texts : List (List ℕ)) → AllByRecursion IsShort texts → IsStringTable at (table_bytes texts) ([] ∷ texts)
 unfolding table_bytes
 is_table at texts short = record {
   fields = fields_at at (BytesPiece 1 [] ∷ text_pieces texts);
@@ -49,14 +49,14 @@ abbrev pub object_at : ℕ → ℕ → ObjectKind → List ℕ → Object
 object_at at number kind bytes = record { kind = kind; at = at + body_of_piece (BytesPiece number bytes); bytes = bytes }
 
 one_dense : (object : Object) → length (dense_among (object ∷ [])) ≤ 1
-one_dense object = by (is_dense_message object.kind)
+one_dense object = by (is_dense_nodes object.kind)
   where
     by : (b : Bool) → length (cond b (object ∷ []) []) ≤ 1
     by true = omega arith
     by false = omega arith
 
-is_group : (at number : ℕ) (kind : ObjectKind) (bytes : List ℕ) → kind_of number ≡ Some kind → IsGood (BytesPiece number bytes)
-    → SpellsObject (object_at at number kind bytes) → IsGroup at (group_bytes number bytes) (object_at at number kind bytes ∷ [])
+is_group : (at number : ℕ) (kind : ObjectKind) (bytes : List ℕ) → kind_of_field number ≡ Some kind → IsGood (BytesPiece number bytes)
+    → SpellsObject (object_at at number kind bytes) → IsPrimitiveGroup at (group_bytes number bytes) (object_at at number kind bytes ∷ [])
 is_group at number kind bytes e good spelled = record {
   fields = fields_at at (BytesPiece number bytes ∷ []);
   spells = spells_message at (BytesPiece number bytes ∷ []) (good, tt);
@@ -93,11 +93,11 @@ joined_none objects = λ i. record {
 
 -- the payload is a block that gives these objects, wherever it stands
 abbrev pub IsPayload : List ℕ → Objects → Type 0
-IsPayload payload objects = (at : ℕ) → (block : Block) × IsBlock at payload block × IsObjects block objects
+IsPayload payload objects = (at : ℕ) → (block : Block) × IsPrimitiveBlock at payload block × IsObjects block objects
 
 pub is_payload : (texts : List (List ℕ)) (number : ℕ) (kind : ObjectKind) (bytes : List ℕ) (objects : Objects)
     → AllByRecursion IsShort texts → IsShort (table_bytes texts) → IsShort (group_bytes number bytes)
-    → kind_of number ≡ Some kind → IsGood (BytesPiece number bytes)
+    → kind_of_field number ≡ Some kind → IsGood (BytesPiece number bytes)
     → ((place : ℕ) → GivesObjects ([] ∷ texts) plain_units (record { kind = kind; at = place; bytes = bytes }) objects)
     → IsPayload (block_bytes (table_bytes texts) number bytes) objects
 unfolding block_bytes
@@ -106,7 +106,7 @@ is_payload texts number kind bytes objects short short_table short_group e good 
     let pieces : List Piece = BytesPiece 1 table ∷ BytesPiece 2 (group_bytes number bytes) ∷ [] in
     let place = group_place at table number bytes in
     let one = gives (place + body_of_piece (BytesPiece number bytes)) in
-    let is_block : IsBlock at (block_bytes table number bytes) (block_at at texts table number kind bytes) = record {
+    let is_block : IsPrimitiveBlock at (block_bytes table number bytes) (block_at at texts table number kind bytes) = record {
       fields = fields_at at pieces;
       spells = spells_message at pieces ((good_number 1 (omega arith) (omega arith), short_table), ((good_number 2 (omega arith) (omega arith), short_group), tt));
       table = ([] ∷ texts, is_table (at + body_of_piece (BytesPiece 1 table)) texts short, refl);

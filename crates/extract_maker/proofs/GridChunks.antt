@@ -9,7 +9,7 @@ use Rattle.std.proofs.lemmas.List.{length-append}
 use Rattle.pbf_blobs.specs.declared.blob.Blob.{Blob}
 use Rattle.pbf_blobs.specs.Triple.{IsKnownType, AreTriples}
 use Rattle.osm_messages.specs.Blocks.{Block}
-use Rattle.osm_messages.specs.Means.{IsHeader}
+use Rattle.osm_messages.specs.Means.{IsHeaderBlock}
 use Rattle.osm_objects.specs.Objects.{Objects, no_objects, joined}
 use Rattle.osm_objects.specs.Means.{HoldsOfOne}
 use Rattle.osm_blocks.specs.FileContent.{IsHeaderBlob, IsDataBlob, IsReadFeature, HasHeaderBlock, HasDataBlock, GivesBlob, AllGive, HeadersFirst}
@@ -93,7 +93,7 @@ feature_pieces = BytesPiece 4 (codes "OsmSchema-V0.6") ∷ BytesPiece 4 (codes "
 abbrev features_at : ℕ → List (ℕ × List ℕ)
 features_at at = (at, codes "OsmSchema-V0.6") ∷ (at + length (piece_bytes (BytesPiece 4 (codes "OsmSchema-V0.6"))), codes "DenseNodes") ∷ []
 
-is_features : (at : ℕ) → IsHeader at features_bytes (features_at at)
+is_features : (at : ℕ) → IsHeaderBlock at features_bytes (features_at at)
 unfolding features_bytes feature_pieces
 is_features at = record {
   fields = fields_at at feature_pieces;

@@ -162,7 +162,7 @@ is_node_chunk side row few less =
     }) in
     record {
       few = omega (arith, block_few (table_bytes []) 2 (dense_bytes nodes), empty_table_few);
-      is_payload = is_payload [] 2 kinds.Dense (dense_bytes nodes) (just_nodes nodes) tt (omega (arith, empty_table_few)) (omega (arith, group_few 2 (dense_bytes nodes))) refl
+      is_payload = is_payload [] 2 kinds.DenseNodes (dense_bytes nodes) (just_nodes nodes) tt (omega (arith, empty_table_few)) (omega (arith, group_few 2 (dense_bytes nodes))) refl
           (good_number 2 (omega arith) (omega arith), omega arith) (λ place. nodes_mean place nodes plain (omega arith));
     }
 

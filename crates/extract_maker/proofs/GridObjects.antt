@@ -15,7 +15,7 @@ use Rattle.osm_model.specs.declared.relations.Member.{Member}
 use Rattle.osm_model.specs.declared.relations.MemberKind.TheVariants as members
 use Rattle.osm_model.specs.declared.relations.OsmRelation.{OsmRelation}
 use Rattle.osm_objects.specs.Objects.{Objects, just_nodes, just_ways, just_relations}
-use Rattle.osm_objects.specs.Means.{held_by, AreSums, AreTags, GivesTag, IsKept, IsUtf8Text, IsRoundedDown, IsOnEarth, IsPlaceAt, IsNodeAt, DenseRow, MeansRow, MeansDense, MeansWay, MeansRelation, GivesObjects, type_of}
+use Rattle.osm_objects.specs.Means.{held_by, AreSums, AreKeptTags, GivesTag, IsKept, IsUtf8Text, IsRoundedDown, IsOnEarth, IsPlaceAt, IsNodeAt, DenseRow, MeansRow, MeansDenseNodes, MeansWay, MeansRelation, GivesObjects, type_of}
 use Rattle.extract_maker.specs.Spelling.{packed, packed_differences, differences, Piece, NumberPiece, BytesPiece, message_bytes}
 use Rattle.extract_maker.specs.GridFile.{dense_bytes, road_bytes, turn_bytes}
 use Rattle.extract_maker.proofs.Varints.{IsWord, few_packed}
@@ -233,7 +233,7 @@ abbrev lons_of : List OsmNode → List ℤ
 lons_of nodes = map (λ (node : OsmNode). node.lon) nodes
 
 pub nodes_mean : (place : ℕ) (nodes : List OsmNode) → AllByRecursion IsPlain nodes → length nodes ≤ 1000
-    → GivesObjects ([] ∷ []) plain_units (record { kind = kinds.Dense; at = place; bytes = dense_bytes nodes }) (just_nodes nodes)
+    → GivesObjects ([] ∷ []) plain_units (record { kind = kinds.DenseNodes; at = place; bytes = dense_bytes nodes }) (just_nodes nodes)
 unfolding dense_bytes node_helds row_of
 nodes_mean place nodes plain few =
     let ids = ids_of nodes in
@@ -251,7 +251,7 @@ nodes_mean place nodes plain few =
     let o = length-map nodes (λ (node : OsmNode). node.lon) in
     record {
       numbers = numbers_in helds;
-      spells = is_object kinds.Dense place helds
+      spells = is_object kinds.DenseNodes place helds
           ((refl, differences_words ids ids_small), ((refl, differences_words lats lats_small), ((refl, differences_words lons lons_small), tt)))
           ((good_number 1 (omega arith) (omega arith), omega arith), ((good_number 8 (omega arith) (omega arith), omega arith), ((good_number 9 (omega arith) (omega arith), omega arith), tt)));
       means = (

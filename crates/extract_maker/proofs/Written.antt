@@ -71,7 +71,7 @@ header_written out =
     ∙ ap (λ (k : ℕ). out ++ (triple_front (codes "OSMHeader") k ++ features_bytes)) features_length
     ∙ ap (λ (l : List ℕ). out ++ l) (triple_written (codes "OSMHeader") features_bytes)
 
--- ---- data blocks
+-- ---- PrimitiveBlocks
 
 pub data_written : (out table : List ℕ) (number : ℕ) (object : List ℕ) (payload group : ℕ)
     → group ≡ length (field_front number (length object)) + length object

@@ -1,4 +1,4 @@
--- The bytes of the grid's file (fileformat.proto, osmformat.proto): a header, then a data block for each row of nodes, for
+-- The bytes of the grid's file (fileformat.proto, osmformat.proto): a header, then a PrimitiveBlock for each row of nodes, for
 -- each way and for each turn restriction. Each block has a string table of its own.
 use Rattle.std.specs.Prelude.{ℕ, zero, suc, ◌+◌, ◌*◌, ℤ, pos, List, [], ◌∷◌, ◌++◌, map, length, Option, Some, None, codes}
 use Rattle.std.specs.Int.{w32, to_be_bytes}
@@ -41,7 +41,7 @@ features_bytes = message_bytes (BytesPiece 4 (codes "OsmSchema-V0.6") ∷ BytesP
 unfoldable pub table_bytes : List (List ℕ) → List ℕ
 table_bytes texts = message_bytes (BytesPiece 1 [] ∷ map (λ text. BytesPiece 1 text) texts)
 
--- a data block with this string table and one group of one object, which is the group's field of this number
+-- a PrimitiveBlock with this string table and one PrimitiveGroup of one object, which is the group's field of this number
 abbrev pub group_bytes : ℕ → List ℕ → List ℕ
 group_bytes number object = message_bytes (BytesPiece number object ∷ [])
 
@@ -54,7 +54,7 @@ block_bytes table number object = message_bytes (BytesPiece 1 table ∷ BytesPie
 abbrev pub rising : ℕ → ℕ → ℕ → List ℤ
 rising first step many = map (λ i. pos (first + i * step)) (counted many)
 
--- the dense message of these nodes, which have no tags: ids 1, latitudes 8, longitudes 9
+-- the DenseNodes of these nodes, which have no tags
 unfoldable pub dense_bytes : List OsmNode → List ℕ
 dense_bytes nodes = message_bytes (
     BytesPiece 1 (packed_differences (map (λ (node : OsmNode). node.id) nodes))

@@ -31,7 +31,8 @@ pub(crate) fn push_header(file: &mut Vec<u8>) -> Result<(), AllocError>
     push_bytes(file, 4, dense.as_bytes())
 }
 
-/// Puts a data block with this string table and one object, which is the field of this number of a group.
+/// Appends a PrimitiveBlock with this string table and one object, which is the field of this number of a
+/// PrimitiveGroup.
 pub(crate) fn push_data(
     file: &mut Vec<u8>,
     table: &[u8],

@@ -32,7 +32,7 @@ fn push_rising_field(
     push_bytes(object, field, numbers.as_slice())
 }
 
-/// Makes the dense message of a row of nodes.
+/// Makes the DenseNodes of a row of nodes.
 pub(crate) fn write_node_row(
     object: &mut Vec<u8>,
     numbers: &mut Vec<u8>,

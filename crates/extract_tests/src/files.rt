@@ -35,7 +35,7 @@ const NO_TEXT: [u8; 22] = *b"\x00\x00\x00\x0d\x0a\x09OSMHeader\x18\x05\x0a\x03\x
 const BROKEN_HEADER: [u8; 23] =
     *b"\x00\x00\x00\x0d\x0a\x09OSMHeader\x18\x06\x0a\x04\x22\x01\x78\x0b";
 
-// A data block without a string table, and with a group.
+// A PrimitiveBlock without a string table, and with a PrimitiveGroup.
 const NO_TABLE: [u8; 19] = *b"\x00\x00\x00\x0b\x0a\x07OSMData\x18\x04\x0a\x02\x12\x00";
 
 // What the bytes give, read in pieces of this size; the call of the host that fails, if one does.

@@ -1,25 +1,47 @@
 use osm_messages::{
-    MessageFault, NumberLists, ObjectKind, RawBlock, RawObject, read_block, read_features,
-    read_numbers,
+    MessageFault, NumberLists, ObjectKind, RawDenseNodes, RawNode, RawObject, RawPrimitiveBlock,
+    RawRelation, RawWay, read_features, read_numbers, read_primitive_block,
 };
 use std::alloc::{AllocError, Global};
 use std::test::Fail;
 use wire_read::WireFault;
 
-// Whether the object has these numbers in the fields 1, 2, 3, 8, 9 and 10.
-fn has_numbers(lists: &mut NumberLists, kind: ObjectKind, bytes: &[u8], want: [&[u64]; 6]) -> bool {
+// Whether the numbers of an object of this kind are read.
+fn is_read(lists: &mut NumberLists, kind: ObjectKind, bytes: &[u8]) -> bool {
     let object = RawObject {
         kind,
         at: 100,
         bytes,
     };
     read_numbers(&object, lists).is_ok()
-        && lists.first.as_slice() == want[0]
-        && lists.second.as_slice() == want[1]
-        && lists.third.as_slice() == want[2]
-        && lists.eighth.as_slice() == want[3]
-        && lists.ninth.as_slice() == want[4]
-        && lists.tenth.as_slice() == want[5]
+}
+
+fn same_node(node: &RawNode<'_>, want: &RawNode<'_>) -> bool {
+    node.id == want.id
+        && node.keys == want.keys
+        && node.vals == want.vals
+        && node.lat == want.lat
+        && node.lon == want.lon
+}
+
+fn same_dense(dense: &RawDenseNodes<'_>, want: &RawDenseNodes<'_>) -> bool {
+    dense.id == want.id
+        && dense.lat == want.lat
+        && dense.lon == want.lon
+        && dense.keys_vals == want.keys_vals
+}
+
+fn same_way(way: &RawWay<'_>, want: &RawWay<'_>) -> bool {
+    way.id == want.id && way.keys == want.keys && way.vals == want.vals && way.refs == want.refs
+}
+
+fn same_relation(relation: &RawRelation<'_>, want: &RawRelation<'_>) -> bool {
+    relation.id == want.id
+        && relation.keys == want.keys
+        && relation.vals == want.vals
+        && relation.roles_sid == want.roles_sid
+        && relation.memids == want.memids
+        && relation.types == want.types
 }
 
 // Node 7 at 10 and 20 with keys 1, 2 and values 3, 300: packed, unpacked, mixed.
@@ -43,9 +65,15 @@ fn nodes(rt: HostRuntime) {
         ]
         .as_slice(),
     ] {
-        let want: [&[u64]; 6] = [&[7], &[1, 2], &[3, 300], &[10], &[20], &[]];
+        let want = RawNode {
+            id: [7].as_slice(),
+            keys: [1, 2].as_slice(),
+            vals: [3, 300].as_slice(),
+            lat: [10].as_slice(),
+            lon: [20].as_slice(),
+        };
         assert!(rt;
-            has_numbers(&mut lists, ObjectKind::Node, bytes, want),
+            is_read(&mut lists, ObjectKind::Node, bytes) && same_node(&lists.node(), &want),
             "{bytes:?}"
         );
     }
@@ -72,9 +100,15 @@ fn dense_nodes(rt: HostRuntime) {
         ]
         .as_slice(),
     ] {
-        let want: [&[u64]; 6] = [&[2, 2], &[], &[], &[2, 2], &[6, 2], &[0, 1, 2, 0]];
+        let want = RawDenseNodes {
+            id: [2, 2].as_slice(),
+            lat: [2, 2].as_slice(),
+            lon: [6, 2].as_slice(),
+            keys_vals: [0, 1, 2, 0].as_slice(),
+        };
         assert!(rt;
-            has_numbers(&mut lists, ObjectKind::Dense, bytes, want),
+            is_read(&mut lists, ObjectKind::DenseNodes, bytes)
+                && same_dense(&lists.dense_nodes(), &want),
             "{bytes:?}"
         );
     }
@@ -96,9 +130,14 @@ fn ways(rt: HostRuntime) {
         ]
         .as_slice(),
     ] {
-        let want: [&[u64]; 6] = [&[5], &[1], &[2], &[2, 4], &[], &[]];
+        let want = RawWay {
+            id: [5].as_slice(),
+            keys: [1].as_slice(),
+            vals: [2].as_slice(),
+            refs: [2, 4].as_slice(),
+        };
         assert!(rt;
-            has_numbers(&mut lists, ObjectKind::Way, bytes, want),
+            is_read(&mut lists, ObjectKind::Way, bytes) && same_way(&lists.way(), &want),
             "{bytes:?}"
         );
     }
@@ -125,9 +164,17 @@ fn relations(rt: HostRuntime) {
         ]
         .as_slice(),
     ] {
-        let want: [&[u64]; 6] = [&[9], &[1], &[2], &[3, 3], &[8, 10], &[0, 1]];
+        let want = RawRelation {
+            id: [9].as_slice(),
+            keys: [1].as_slice(),
+            vals: [2].as_slice(),
+            roles_sid: [3, 3].as_slice(),
+            memids: [8, 10].as_slice(),
+            types: [0, 1].as_slice(),
+        };
         assert!(rt;
-            has_numbers(&mut lists, ObjectKind::Relation, bytes, want),
+            is_read(&mut lists, ObjectKind::Relation, bytes)
+                && same_relation(&lists.relation(), &want),
             "{bytes:?}"
         );
     }
@@ -140,8 +187,14 @@ fn other_wire_types(rt: HostRuntime) {
     let bytes = [
         0x0a, 0x01, 0x80, 0x15, 1, 0, 0, 0, 0x41, 1, 0, 0, 0, 0, 0, 0, 0, 0x08, 0x05, 0x08, 0x06,
     ];
-    let want: [&[u64]; 6] = [&[5, 6], &[], &[], &[], &[], &[]];
-    assert!(rt; has_numbers(&mut lists, ObjectKind::Way, bytes.as_slice(), want));
+    assert!(rt; is_read(&mut lists, ObjectKind::Way, bytes.as_slice()));
+    let want = RawWay {
+        id: [5, 6].as_slice(),
+        keys: [].as_slice(),
+        vals: [].as_slice(),
+        refs: [].as_slice(),
+    };
+    assert!(rt; same_way(&lists.way(), &want));
 }
 
 fn short(at: u64) -> Option<MessageFault> {
@@ -190,7 +243,7 @@ fn faults(rt: HostRuntime) {
             .as_slice(),
             short(1008),
         ),
-        // two dense messages in one group, and in two
+        // two DenseNodes in one PrimitiveGroup, and in two
         (
             [0x12, 0x04, 0x12, 0x00, 0x12, 0x00].as_slice(),
             repeated(1004, 2),
@@ -231,7 +284,7 @@ fn faults(rt: HostRuntime) {
             }),
         ),
     ] {
-        let found = read_block(rt.alloc(), bytes, 1000).err();
+        let found = read_primitive_block(rt.alloc(), bytes, 1000).err();
         assert_eq!(rt; found, want, "{bytes:?}");
     }
 }
@@ -239,7 +292,7 @@ fn faults(rt: HostRuntime) {
 // The kinds, places and sizes of the objects.
 fn places(
     alloc: Global,
-    block: &RawBlock<'_>,
+    block: &RawPrimitiveBlock<'_>,
 ) -> Result<Vec<(ObjectKind, u64, usize)>, AllocError> {
     let mut places = Vec::new(alloc);
     for object in block.objects.iter() {
@@ -248,8 +301,8 @@ fn places(
     Ok(places)
 }
 
-// A table of "", "hi" and a field that is no text; a group of a way and a group of a node, a relation and a dense
-// message. The granularity comes twice, and the latitude's offset is the number of ten bytes.
+// A table of "", "hi" and a field that is no string; a PrimitiveGroup of a way, and one of a node, a relation and a
+// DenseNodes. The granularity comes twice, and the latitude's offset is the number of ten bytes.
 const BLOCK: [u8; 50] = [
     0x88, 0x01, 0x0a, 0x0a, 0x08, 0x0a, 0x00, 0x0a, 0x02, 0x68, 0x69, 0x10, 0x05, 0x12, 0x04, 0x1a,
     0x02, 0x08, 0x05, 0x12, 0x08, 0x0a, 0x02, 0x08, 0x07, 0x22, 0x00, 0x12, 0x00, 0x88, 0x01, 0x14,
@@ -259,7 +312,7 @@ const BLOCK: [u8; 50] = [
 
 #[test]
 fn blocks(rt: HostRuntime) -> Result<(), Fail> {
-    let Ok(block) = read_block(rt.alloc(), BLOCK.as_slice(), 1000) else {
+    let Ok(block) = read_primitive_block(rt.alloc(), BLOCK.as_slice(), 1000) else {
         assert!(rt; false, "a block");
         return Ok(());
     };
@@ -268,7 +321,7 @@ fn blocks(rt: HostRuntime) -> Result<(), Fail> {
         (ObjectKind::Way, 1017, 2),
         (ObjectKind::Node, 1023, 2),
         (ObjectKind::Relation, 1027, 0),
-        (ObjectKind::Dense, 1029, 0),
+        (ObjectKind::DenseNodes, 1029, 0),
     ];
     assert_eq!(rt; places.as_slice(), want.as_slice());
     let scalars = (block.granularity, block.lat_offset, block.lon_offset);
@@ -284,7 +337,7 @@ fn blocks(rt: HostRuntime) -> Result<(), Fail> {
 
 #[test]
 fn empty_block(rt: HostRuntime) {
-    match read_block(rt.alloc(), [].as_slice(), 1000) {
+    match read_primitive_block(rt.alloc(), [].as_slice(), 1000) {
         Ok(block) => {
             let scalars = (block.granularity, block.lat_offset, block.lon_offset);
             assert_eq!(rt; scalars, (100, 0, 0));

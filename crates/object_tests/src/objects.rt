@@ -1,4 +1,4 @@
-use osm_messages::read_block;
+use osm_messages::read_primitive_block;
 use osm_model::MemberKind;
 use osm_objects::{ObjectFault, ObjectLists, add_objects};
 use std::alloc::{AllocError, Global};
@@ -38,7 +38,7 @@ fn meaning(alloc: Global, bytes: &[u8]) -> Result<ObjectLists, ObjectFault> {
     if bytes.len() > 1_000_000 {
         return Err(ObjectFault::OutOfMemory);
     }
-    let Ok(block) = read_block(alloc, bytes, 0) else {
+    let Ok(block) = read_primitive_block(alloc, bytes, 0) else {
         return Err(ObjectFault::OutOfMemory);
     };
     add_objects(alloc, &block, 0, &mut lists)?;

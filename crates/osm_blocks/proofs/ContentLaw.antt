@@ -18,7 +18,7 @@ use Rattle.pbf_blobs.specs.Frames.{Frames}
 use Rattle.osm_messages.specs.declared.fault.MessageFault.{MessageFault}
 use Rattle.osm_messages.specs.Blocks.{Block, block_in}
 use Rattle.osm_messages.specs.Headers.{features_in}
-use Rattle.osm_messages.specs.Means.{IsHeader, IsBlock}
+use Rattle.osm_messages.specs.Means.{IsHeaderBlock, IsPrimitiveBlock}
 use Rattle.osm_messages.proofs.Meant.{Each, InBytes, HoldsBytes as AreFieldBytes, holds_bytes, front_bytes}
 use Rattle.osm_objects.specs.declared.fault.ObjectFault.{ObjectFault}
 use Rattle.osm_objects.specs.Objects.{Objects, no_objects, joined, objects_of}
@@ -162,13 +162,13 @@ nothing_unknown (Some feature) u e = absurd (not_ok (faults.Feature feature.0 (s
 -- ---- the laws of the layers below
 
 abbrev pub HeaderLaw : Type 0
-HeaderLaw = (at : ℕ) (bytes : List ℕ) → AreBytes bytes → (features : List (ℕ × List ℕ)) → (features_in at bytes ≡ Ok features) ↔ IsHeader at bytes features
+HeaderLaw = (at : ℕ) (bytes : List ℕ) → AreBytes bytes → (features : List (ℕ × List ℕ)) → (features_in at bytes ≡ Ok features) ↔ IsHeaderBlock at bytes features
 
 abbrev pub BlockLaw : Type 0
-BlockLaw = (at : ℕ) (bytes : List ℕ) → AreBytes bytes → (block : Block) → (block_in at bytes ≡ Ok block) ↔ IsBlock at bytes block
+BlockLaw = (at : ℕ) (bytes : List ℕ) → AreBytes bytes → (block : Block) → (block_in at bytes ≡ Ok block) ↔ IsPrimitiveBlock at bytes block
 
 abbrev pub ObjectLaw : Type 0
-ObjectLaw = (at : ℕ) (bytes : List ℕ) → AreBytes bytes → (block : Block) → IsBlock at bytes block → (objects : Objects) → (objects_of at block ≡ Ok objects) ↔ IsObjects block objects
+ObjectLaw = (at : ℕ) (bytes : List ℕ) → AreBytes bytes → (block : Block) → IsPrimitiveBlock at bytes block → (objects : Objects) → (objects_of at block ≡ Ok objects) ↔ IsObjects block objects
 
 abbrev pub TriplesLaw : Type 0
 TriplesLaw = (bytes : List ℕ) → AreBytes bytes → (at : ℕ) (blobs : List Blob) → Frames bytes at blobs Ends ↔ AreTriples at (drop at bytes) blobs

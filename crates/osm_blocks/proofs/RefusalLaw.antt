@@ -17,7 +17,7 @@ use Rattle.pbf_blobs.specs.Frames.{Frames}
 use Rattle.osm_messages.specs.declared.fault.MessageFault.{MessageFault}
 use Rattle.osm_messages.specs.Blocks.{Block, block_in}
 use Rattle.osm_messages.specs.Headers.{features_in}
-use Rattle.osm_messages.specs.Means.{IsHeader, IsBlock}
+use Rattle.osm_messages.specs.Means.{IsHeaderBlock, IsPrimitiveBlock}
 use Rattle.osm_messages.specs.Faults.{InNone, InBlock, IsFirst}
 use Rattle.osm_messages.proofs.Meant.{front_bytes}
 use Rattle.osm_objects.specs.declared.fault.ObjectFault.{ObjectFault}
@@ -160,7 +160,7 @@ is_past_so count h = lt-ltb count.most count.found h
 pub record FaultLaws : Type 0 where
   pub header : (at : ℕ) (bytes : List ℕ) → AreBytes bytes → (fault : MessageFault) → (features_in at bytes ≡ Err fault) ↔ IsFirst InNone at bytes fault
   pub block : (at : ℕ) (bytes : List ℕ) → AreBytes bytes → (fault : MessageFault) → (block_in at bytes ≡ Err fault) ↔ IsFirst InBlock at bytes fault
-  pub objects : (at : ℕ) (bytes : List ℕ) → AreBytes bytes → (block : Block) → IsBlock at bytes block → (fault : ObjectFault) → (objects_of at block ≡ Err fault) ↔ IsFirstOfBlock at block fault
+  pub objects : (at : ℕ) (bytes : List ℕ) → AreBytes bytes → (block : Block) → IsPrimitiveBlock at bytes block → (fault : ObjectFault) → (objects_of at block ≡ Err fault) ↔ IsFirstOfBlock at block fault
   pub causes : (at : ℕ) (rest : List ℕ) → AreBytes rest → (outcome : Outcome) → (next_of at rest ≡ outcome) ↔ Means at rest outcome
 
 module _ (laws : Laws) (fault_laws : FaultLaws) where
@@ -237,7 +237,7 @@ module _ (laws : Laws) (fault_laws : FaultLaws) where
             before = found.before;
             feature = feature;
             after = found.after;
-            is_header = subst (λ (l : List (ℕ × List ℕ)). IsHeader blob.raw_at blob.raw l) found.parts ((laws.header blob.raw_at blob.raw are features).0 reads);
+            is_header = subst (λ (l : List (ℕ × List ℕ)). IsHeaderBlock blob.raw_at blob.raw l) found.parts ((laws.header blob.raw_at blob.raw are features).0 reads);
             read = each_by (λ (f : ℕ × List ℕ). unknown f ≡ false) IsReadFeature found.before read_feature found.none;
             unread = λ read. true_false (sym found.holds ∙ feature_read feature read);
             is = is;
@@ -255,7 +255,7 @@ module _ (laws : Laws) (fault_laws : FaultLaws) where
       (ap (given spelled_as) ((laws.header blob.raw_at blob.raw are features).1 h.is_header))
       (ap all_known first ∙ err_up (faults.Feature h.feature.0 (shown h.feature.1)) d (sym h.is))
 
-  -- ---- a data block
+  -- ---- a PrimitiveBlock
 
   data_fault : (blob : Blob) → AreBytes blob.raw → (d : ExtractFault) → objects_in blob.raw_at blob.raw ≡ Err d → HasBrokenDataBlock blob d ⊎ HasFaultyObjects blob d
   data_fault blob are d e = elim (one_part (given spelled_as (block_in blob.raw_at blob.raw)) (λ block. given meant_as (objects_of blob.raw_at block)) d e) [

@@ -8,7 +8,7 @@ use Rattle.osm_model.specs.OsmNode.{IsPlaced}
 use Rattle.osm_model.specs.declared.extract.Extract.{Extract}
 use Rattle.pbf_blobs.specs.declared.blob.Blob.{Blob}
 use Rattle.osm_messages.specs.Blocks.{Block, block_in}
-use Rattle.osm_objects.specs.Objects.{Objects, joined, behind, objects_of}
+use Rattle.osm_objects.specs.Objects.{Objects, joined, joined_behind, objects_of}
 use Rattle.osm_objects.proofs.Placed.{all_placed}
 use Rattle.osm_blocks.specs.declared.fault.ExtractFault.{ExtractFault}
 use Rattle.osm_blocks.specs.declared.fault.ExtractFault.TheVariants as faults
@@ -38,7 +38,7 @@ data_placed draft next blob placed e =
     let block = parts (given spelled_as (block_in blob.raw_at blob.raw)) (λ block. given meant_as (objects_of blob.raw_at block)) more.0 more.1 in
     let objects = given_ok meant_as (objects_of blob.raw_at block.0) more.0 block.2 in
     subst Placed (ok_is {E = ExtractFault} (record draft { objects = joined draft.objects more.0 }) next more.2)
-    (all_placed draft.objects (joined draft.objects more.0) blob.raw_at block.0 placed (ap (behind draft.objects) objects))
+    (all_placed draft.objects (joined draft.objects more.0) blob.raw_at block.0 placed (ap (joined_behind draft.objects) objects))
 
 header_placed : (draft next : Draft) (blob : Blob) → Placed draft → with_header draft blob ≡ Ok next → Placed next
 header_placed draft next blob placed e =

@@ -55,20 +55,20 @@ header_in at bytes = do
   features ← given spelled_as (features_in at bytes)
   all_known (first_unknown features)
 
--- the objects of a data block, whose first byte stands at this place
+-- the objects of a PrimitiveBlock, whose first byte stands at this offset
 abbrev pub objects_in : ℕ → List ℕ → Result Objects ExtractFault
 objects_in at bytes = do
   block ← given spelled_as (block_in at bytes)
   given meant_as (objects_of at block)
 
--- one header block more; the objects of one data block more
+-- one HeaderBlock more; the objects of one PrimitiveBlock more
 abbrev pub with_header : Draft → Blob → Result Draft ExtractFault
 with_header draft blob = header_in blob.raw_at blob.raw >>= λ so. Ok (record draft { headed = true })
 
 abbrev pub with_data : Draft → Blob → Result Draft ExtractFault
 with_data draft blob = objects_in blob.raw_at blob.raw >>= λ more. Ok (record draft { objects = joined draft.objects more })
 
--- one blob more; a data block has to come behind a header, and blobs of other types mean nothing
+-- one blob more; a PrimitiveBlock has to come behind a HeaderBlock, and blobs of other types mean nothing
 abbrev pub with_blob : Draft → Blob → Result Draft ExtractFault
 with_blob draft blob =
     if bytes_eq blob.kind (codes "OSMHeader") then with_header draft blob

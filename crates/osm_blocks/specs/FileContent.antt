@@ -6,7 +6,7 @@ use Rattle.osm_model.specs.Extract.{AreWithin}
 use Rattle.pbf_blobs.specs.declared.blob.Blob.{Blob}
 use Rattle.pbf_blobs.specs.Triple.{AreTriples}
 use Rattle.osm_messages.specs.Blocks.{Block}
-use Rattle.osm_messages.specs.Means.{IsHeader, IsBlock}
+use Rattle.osm_messages.specs.Means.{IsHeaderBlock, IsPrimitiveBlock}
 use Rattle.osm_objects.specs.Objects.{Objects, no_objects, joined}
 use Rattle.osm_objects.specs.Means.{HoldsOfOne, IsObjects}
 use Rattle.osm_blocks.specs.Order.{InOrder}
@@ -29,16 +29,16 @@ IsReadFeature feature = (feature.1 ≡ codes "OsmSchema-V0.6") ⊎ (feature.1 �
 -- the payload is a header, and each feature that it requires is known
 pub record HasHeaderBlock (blob : Blob) : Type 0 where
   pub features : List (ℕ × List ℕ)
-  pub is_header : IsHeader blob.raw_at blob.raw features
+  pub is_header : IsHeaderBlock blob.raw_at blob.raw features
   pub read : AllByRecursion IsReadFeature features
 
 -- the payload is a block, and these are its objects
 pub record HasDataBlock (blob : Blob) (objects : Objects) : Type 0 where
   pub block : Block
-  pub is_block : IsBlock blob.raw_at blob.raw block
+  pub is_block : IsPrimitiveBlock blob.raw_at blob.raw block
   pub means : IsObjects block objects
 
--- a header gives no objects, a data block those that it means, and a blob of another type none
+-- a header gives no objects, a PrimitiveBlock those that it means, and a blob of another type none
 abbrev pub GivesBlob : Blob → Objects → Type 0
 GivesBlob blob given =
     (IsHeaderBlob blob × HasHeaderBlock blob × (given ≡ no_objects))
@@ -57,7 +57,7 @@ HeadersFirst before (blob ∷ blobs) = (IsDataBlob blob → HoldsOfOne IsHeaderB
 
 -- ---- the file
 
--- The file is triples, with a header before each data blob; the objects of all its data blocks are these lists, each in
+-- The file is triples, with a header before each data blob; the objects of all its PrimitiveBlocks are these lists, each in
 -- order of id and with no id twice; and no count is past its limit.
 pub record IsFileOf (bytes : List ℕ) (lists : Objects) : Type 0 where
   pub blobs : List Blob

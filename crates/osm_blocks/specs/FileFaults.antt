@@ -10,7 +10,7 @@ use Rattle.pbf_blobs.specs.Triple.{IsTriple}
 use Rattle.pbf_blobs.specs.Means.{MeansFault, BeginsWithTriple}
 use Rattle.osm_messages.specs.declared.fault.MessageFault.{MessageFault}
 use Rattle.osm_messages.specs.Blocks.{Block}
-use Rattle.osm_messages.specs.Means.{IsHeader, IsBlock}
+use Rattle.osm_messages.specs.Means.{IsHeaderBlock, IsPrimitiveBlock}
 use Rattle.osm_messages.specs.Faults.{InNone, InBlock, IsFirst}
 use Rattle.osm_objects.specs.declared.fault.ObjectFault.{ObjectFault}
 use Rattle.osm_objects.specs.Objects.{Objects}
@@ -46,7 +46,7 @@ pub record HasUnreadFeature (blob : Blob) (fault : ExtractFault) : Type 0 where
   pub before : List (ℕ × List ℕ)
   pub feature : ℕ × List ℕ
   pub after : List (ℕ × List ℕ)
-  pub is_header : IsHeader blob.raw_at blob.raw (before ++ feature ∷ after)
+  pub is_header : IsHeaderBlock blob.raw_at blob.raw (before ++ feature ∷ after)
   pub read : AllByRecursion IsReadFeature before
   pub unread : IsReadFeature feature → ⊥
   pub is : fault ≡ faults.Feature feature.0 (shown feature.1)
@@ -60,7 +60,7 @@ pub record HasBrokenDataBlock (blob : Blob) (fault : ExtractFault) : Type 0 wher
 -- the payload is a block, and this is the first fault of its objects
 pub record HasFaultyObjects (blob : Blob) (fault : ExtractFault) : Type 0 where
   pub block : Block
-  pub is_block : IsBlock blob.raw_at blob.raw block
+  pub is_block : IsPrimitiveBlock blob.raw_at blob.raw block
   pub object : ObjectFault
   pub first : IsFirstOfBlock blob.raw_at block object
   pub is : fault ≡ meant_as object

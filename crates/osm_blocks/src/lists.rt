@@ -11,12 +11,12 @@ ghost use Rattle.osm_blocks.specs.Steps.{AddsObjects, OrdersAll, AreRising};
 
 use crate::fault::{ExtractFault, meant, spelled};
 use crate::order::{order_nodes, order_relations, order_ways};
-use osm_messages::read_block;
+use osm_messages::read_primitive_block;
 use osm_model::{Extract, MemberKind};
 use osm_objects::{ObjectLists, add_objects};
 use std::alloc::{AllocError, Global};
 
-/// Adds the objects of a data block, whose first byte stands at `at`.
+/// Adds the objects of a PrimitiveBlock, whose first byte stands at `at`.
 pub fn add_block(
     alloc: Global,
     lists: &mut ObjectLists,
@@ -30,7 +30,7 @@ pub fn add_block(
     ensures grown { OnOk result (parts_in (seen_objects lists.new) ≤ parts_in (seen_objects lists.old) + length bytes.now) }
     ensures no_read { IfErr result (λ fault. is_read fault ≡ false) }
 {
-    let block = match read_block(alloc, bytes, at) {
+    let block = match read_primitive_block(alloc, bytes, at) {
         Ok(block) => block,
         Err(fault) => return Err(spelled(fault)),
     };

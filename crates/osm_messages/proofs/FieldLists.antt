@@ -6,11 +6,11 @@ use Rattle.std.proofs.lemmas.List.{append-nil}
 use Rattle.wire_read.specs.Fields.{Content, Varint, Fixed64, Bytes, Fixed32, Listed, message_of, packed_of}
 use Rattle.osm_messages.specs.declared.kind.ObjectKind.{ObjectKind}
 use Rattle.osm_messages.specs.declared.kind.ObjectKind.TheVariants as kinds
-use Rattle.osm_messages.specs.Walks.{◌>>=◌, steps, ended, walk}
-use Rattle.osm_messages.specs.Numbers.{Shape, shape_of, is_among, with_number, with_packed, with_held, number_step, numbers_in, numbered}
-use Rattle.osm_messages.specs.Lists.{lists_of, listed, has_list, list_at, with_list, with_value, put_value, put_values, put_held, list_step}
+use Rattle.osm_messages.specs.Walks.{◌>>=◌, steps, with_end, walk}
+use Rattle.osm_messages.specs.Numbers.{Shape, shape_of, is_field_among, with_number, with_packed, with_held, number_step, numbers_in, numbered}
+use Rattle.osm_messages.specs.Lists.{number_lists, listed_numbers, has_list, list_at, with_list, with_value, put_value, put_values, put_held, list_step}
 use Rattle.osm_messages.specs.Passes.{spelled, check_held, check_step}
-use Rattle.osm_messages.proofs.Walks.{IsSeenAs, walk-seen, ended-seen, left_of, Going, begun}
+use Rattle.osm_messages.proofs.Walks.{IsSeenAs, walk-seen, with_end-seen, left_of, Going, begun}
 
 -- ---- numbers put behind others
 
@@ -28,11 +28,11 @@ steps_numbers field numbers [] = ap (λ xs. Ok xs) (sym (append-nil numbers))
 steps_numbers field numbers (n ∷ ns) =
     steps_numbers field (numbers ++ (field, n) ∷ []) ns ∙ ap (λ xs. Ok xs) (append_assoc numbers ((field, n) ∷ []) (of_field field ns))
 
-pub walk_values : (values : List ℕ) (list : Listed ℕ) → walk with_value values list ≡ ended list.fault (values ++ list.items)
-walk_values values list = ap (λ r. r >>= ended list.fault) (steps_values values list.items)
+pub walk_values : (values : List ℕ) (list : Listed ℕ) → walk with_value values list ≡ with_end list.fault (values ++ list.items)
+walk_values values list = ap (λ r. r >>= with_end list.fault) (steps_values values list.items)
 
-pub walk_numbers : (field : ℕ) (numbers : List (ℕ × ℕ)) (list : Listed ℕ) → walk (with_number field) numbers list ≡ ended list.fault (numbers ++ of_field field list.items)
-walk_numbers field numbers list = ap (λ r. r >>= ended list.fault) (steps_numbers field numbers list.items)
+pub walk_numbers : (field : ℕ) (numbers : List (ℕ × ℕ)) (list : Listed ℕ) → walk (with_number field) numbers list ≡ with_end list.fault (numbers ++ of_field field list.items)
+walk_numbers field numbers list = ap (λ r. r >>= with_end list.fault) (steps_numbers field numbers list.items)
 
 -- ---- the numbers of one field
 
@@ -74,7 +74,7 @@ abbrev AreListed : List ℕ → Type 0
 AreListed [] = Unit {0}
 AreListed (field ∷ fields) = IsListed field × AreListed fields
 
-among : (field : ℕ) (fields : List ℕ) → AreListed fields → is_among field fields ≡ true → IsListed field
+among : (field : ℕ) (fields : List ℕ) → AreListed fields → is_field_among field fields ≡ true → IsListed field
 among field [] are e = absurd cc
 among field (first ∷ fields) are e =
     elim (cases_Bool (eqb field first)) [
@@ -103,7 +103,7 @@ ten = inr (inr (inr (inr (inr refl))))
 pub listed_is : (field : ℕ) → IsTrue (has_list field) → IsListed field
 listed_is field e = among field (1 ∷ 2 ∷ 3 ∷ 8 ∷ 9 ∷ 10 ∷ []) (one, (two, (three, (eight, (nine, (ten, tt)))))) e
 
-pub lists-put : (field : ℕ) (numbers : List (ℕ × ℕ)) (ns : List ℕ) → IsListed field → lists_of (numbers ++ of_field field ns) ≡ with_list field (lists_of numbers) (list_at field (lists_of numbers) ++ ns)
+pub lists-put : (field : ℕ) (numbers : List (ℕ × ℕ)) (ns : List ℕ) → IsListed field → number_lists (numbers ++ of_field field ns) ≡ with_list field (number_lists numbers) (list_at field (number_lists numbers) ++ ns)
 lists-put field numbers ns (inl e) =
     rw (e, own 1 1 numbers ns refl, other 1 2 numbers ns refl, other 1 3 numbers ns refl, other 1 8 numbers ns refl, other 1 9 numbers ns refl, other 1 10 numbers ns refl) refl
 lists-put field numbers ns (inr (inl e)) =
@@ -118,42 +118,42 @@ lists-put field numbers ns (inr (inr (inr (inr (inr e))))) =
     rw (e, other 10 1 numbers ns refl, other 10 2 numbers ns refl, other 10 3 numbers ns refl, other 10 8 numbers ns refl, other 10 9 numbers ns refl, own 10 10 numbers ns refl) refl
 
 -- packed numbers
-pub put_values-seen : (field : ℕ) (numbers : List (ℕ × ℕ)) (at : ℕ) (bytes : List ℕ) → IsListed field → listed (with_packed field numbers at bytes) ≡ put_values field (lists_of numbers) at bytes
+pub put_values-seen : (field : ℕ) (numbers : List (ℕ × ℕ)) (at : ℕ) (bytes : List ℕ) → IsListed field → listed_numbers (with_packed field numbers at bytes) ≡ put_values field (number_lists numbers) at bytes
 put_values-seen field numbers at bytes is =
     let list = packed_of at bytes in
-    let lists = lists_of numbers in
-    ap listed (walk_numbers field numbers list)
-    ∙ ended-seen lists_of list.fault (numbers ++ of_field field list.items)
-    ∙ ap (λ ls. ended list.fault ls) (lists-put field numbers list.items is)
-    ∙ sym (ended-seen (with_list field lists) list.fault (list_at field lists ++ list.items))
+    let lists = number_lists numbers in
+    ap listed_numbers (walk_numbers field numbers list)
+    ∙ with_end-seen number_lists list.fault (numbers ++ of_field field list.items)
+    ∙ ap (λ ls. with_end list.fault ls) (lists-put field numbers list.items is)
+    ∙ sym (with_end-seen (with_list field lists) list.fault (list_at field lists ++ list.items))
     ∙ ap (λ r. r >>= λ ns. Ok (with_list field lists ns)) (sym (walk_values (list_at field lists) list))
 
 -- one number
-pub put_value-seen : (field : ℕ) (numbers : List (ℕ × ℕ)) (n : ℕ) → IsListed field → listed (with_number field numbers n) ≡ put_value field (lists_of numbers) n
+pub put_value-seen : (field : ℕ) (numbers : List (ℕ × ℕ)) (n : ℕ) → IsListed field → listed_numbers (with_number field numbers n) ≡ put_value field (number_lists numbers) n
 put_value-seen field numbers n is = ap (λ ls. Ok ls) (lists-put field numbers (n ∷ []) is)
 
 -- ---- the fields of an object
 
 -- the field is one of this object's
 abbrev IsRead : Shape → ℕ → Type 0
-IsRead shape field = (is_among field shape.singles || is_among field shape.lists) ≡ true
+IsRead shape field = (is_field_among field shape.singles || is_field_among field shape.lists) ≡ true
 
 or_right : (a b : Bool) → b ≡ true → (a || b) ≡ true
 or_right true b e = refl
 or_right false b e = e
 
-held-seen : (shape : Shape) (field at : ℕ) (content : Content) (numbers : List (ℕ × ℕ)) → (IsRead shape field → IsListed field) → listed (with_held shape field at content numbers) ≡ put_held shape field at content (lists_of numbers)
+held-seen : (shape : Shape) (field at : ℕ) (content : Content) (numbers : List (ℕ × ℕ)) → (IsRead shape field → IsListed field) → listed_numbers (with_held shape field at content numbers) ≡ put_held shape field at content (number_lists numbers)
 held-seen shape field at (Varint n) numbers is =
-    let single = is_among field shape.singles in
-    let some = is_among field shape.lists in
+    let single = is_field_among field shape.singles in
+    let some = is_field_among field shape.lists in
     elim (cases_Bool (single || some)) [
       | inl e ↦ rw e (put_value-seen field numbers n (is e))
       | inr e ↦ rw e refl
     ]
 held-seen shape field at (Fixed64 n) numbers is = refl
 held-seen shape field at (Bytes bytes) numbers is =
-    let single = is_among field shape.singles in
-    let some = is_among field shape.lists in
+    let single = is_field_among field shape.singles in
+    let some = is_field_among field shape.lists in
     elim (cases_Bool some) [
       | inl e ↦ rw e (put_values-seen field numbers at bytes (is (or_right single some e)))
       | inr e ↦ rw e refl
@@ -162,7 +162,7 @@ held-seen shape field at (Fixed32 n) numbers is = refl
 
 read_by : (shape : Shape) (field : ℕ) → AreListed shape.singles → AreListed shape.lists → IsRead shape field → IsListed field
 read_by shape field singles lists e =
-    elim (cases_Bool (is_among field shape.singles)) [
+    elim (cases_Bool (is_field_among field shape.singles)) [
       | inl single ↦ among field shape.singles singles single
       | inr other ↦ among field shape.lists lists (rw other at e)
     ]
@@ -170,11 +170,11 @@ read_by shape field singles lists e =
 -- each field that is read has a list
 pub read_is_listed : (kind : ObjectKind) (field : ℕ) → IsRead (shape_of kind) field → IsListed field
 read_is_listed kinds.Node field e = read_by (shape_of kinds.Node) field (one, (eight, (nine, tt))) (two, (three, tt)) e
-read_is_listed kinds.Dense field e = read_by (shape_of kinds.Dense) field tt (one, (eight, (nine, (ten, tt)))) e
+read_is_listed kinds.DenseNodes field e = read_by (shape_of kinds.DenseNodes) field tt (one, (eight, (nine, (ten, tt)))) e
 read_is_listed kinds.Way field e = read_by (shape_of kinds.Way) field (one, tt) (two, (three, (eight, tt))) e
 read_is_listed kinds.Relation field e = read_by (shape_of kinds.Relation) field (one, tt) (two, (three, (eight, (nine, (ten, tt))))) e
 
-pub numbers-seen : (kind : ObjectKind) → IsSeenAs lists_of (number_step (shape_of kind)) (list_step (shape_of kind))
+pub numbers-seen : (kind : ObjectKind) → IsSeenAs number_lists (number_step (shape_of kind)) (list_step (shape_of kind))
 numbers-seen kind numbers field =
     held-seen (shape_of kind) field.number field.body_at field.content numbers (read_is_listed kind field.number)
 
@@ -182,12 +182,12 @@ numbers-seen kind numbers field =
 
 check-seen : (shape : Shape) (field at : ℕ) (content : Content) (numbers : List (ℕ × ℕ)) → spelled (with_held shape field at content numbers) ≡ check_held shape field at content
 check-seen shape field at (Varint n) numbers =
-    elim (cases_Bool (is_among field shape.singles || is_among field shape.lists)) [ inl e ↦ rw e refl | inr e ↦ rw e refl ]
+    elim (cases_Bool (is_field_among field shape.singles || is_field_among field shape.lists)) [ inl e ↦ rw e refl | inr e ↦ rw e refl ]
 check-seen shape field at (Fixed64 n) numbers = refl
 check-seen shape field at (Bytes bytes) numbers =
     let list = packed_of at bytes in
-    elim (cases_Bool (is_among field shape.lists)) [
-      | inl e ↦ rw e (ap spelled (walk_numbers field numbers list) ∙ ended-seen (λ _. tt) list.fault (numbers ++ of_field field list.items))
+    elim (cases_Bool (is_field_among field shape.lists)) [
+      | inl e ↦ rw e (ap spelled (walk_numbers field numbers list) ∙ with_end-seen (λ _. tt) list.fault (numbers ++ of_field field list.items))
       | inr e ↦ rw e refl
     ]
 check-seen shape field at (Fixed32 n) numbers = refl
@@ -197,11 +197,11 @@ numbers-checked shape numbers field = check-seen shape field.number field.body_a
 
 -- ---- how the loops over the fields of an object begin
 
-pub numbers-begun : (kind : ObjectKind) (at : ℕ) (bytes : List ℕ) → Going (listed (numbers_in (shape_of kind) at bytes)) (left_of (list_step (shape_of kind)) (lists_of []) (begun at bytes)) (begun at bytes)
+pub numbers-begun : (kind : ObjectKind) (at : ℕ) (bytes : List ℕ) → Going (listed_numbers (numbers_in (shape_of kind) at bytes)) (left_of (list_step (shape_of kind)) (number_lists []) (begun at bytes)) (begun at bytes)
 unfolding numbers_in
 numbers-begun kind at bytes = record {
   unbroken = refl;
-  same = walk-seen lists_of (number_step (shape_of kind)) (list_step (shape_of kind)) (numbers-seen kind) [] (message_of at bytes);
+  same = walk-seen number_lists (number_step (shape_of kind)) (list_step (shape_of kind)) (numbers-seen kind) [] (message_of at bytes);
 }
 
 pub checked-begun : (shape : Shape) (at : ℕ) (bytes : List ℕ) → Going (spelled (numbers_in shape at bytes)) (left_of (check_step shape) tt (begun at bytes)) (begun at bytes)

@@ -7,14 +7,14 @@ use Rattle.wire_read.specs.Fields.{Content, Varint, Fixed64, Bytes, Fixed32, Wir
 use Rattle.wire_read.proofs.MessageLaw.{message_of-spelled, message_of-broken, fault_not_empty, is_message_one_way}
 use Rattle.osm_messages.specs.declared.fault.MessageFault.{MessageFault}
 use Rattle.osm_messages.specs.declared.fault.MessageFault.TheVariants as faults
-use Rattle.osm_messages.specs.Walks.{◌>>=◌, steps, ended, walk, message}
-use Rattle.osm_messages.specs.Faults.{wire_place, place_of, InField, StandsAmong, AreFields, IsBehind, StandsIn}
+use Rattle.osm_messages.specs.Walks.{◌>>=◌, steps, with_end, walk, message}
+use Rattle.osm_messages.specs.Faults.{wire_offset, fault_offset, InField, StandsAmong, AreFields, IsBehind, StandsIn}
 use Rattle.osm_messages.proofs.Meant.{parts_of, err_not_ok, Each, HoldsBytes, front_bytes, in_field, holds_bytes}
 use Rattle.wire_read.proofs.Packed.{AreBytes-rest, IsGroups-length}
 
 -- a fault that stands beside another one is the same, or stands behind it
 abbrev pub SameOrBehind : MessageFault → MessageFault → Type 0
-SameOrBehind d g = (g ≡ d) ⊎ (place_of d < place_of g)
+SameOrBehind d g = (g ≡ d) ⊎ (fault_offset d < fault_offset g)
 
 -- ---- where fields lie
 
@@ -58,10 +58,10 @@ record Lies (at : ℕ) (bytes : List ℕ) (fields : List WireField) (behind : Op
   end : ℕ
   laid : Laid at fields end
   within : end ≤ at + length bytes
-  place : (fault : MessageFault) → IsBehind behind fault → place_of fault ≡ end
+  place : (fault : MessageFault) → IsBehind behind fault → fault_offset fault ≡ end
   some : (fault : MessageFault) → IsBehind behind fault → end < at + length bytes
 
-fault_place : (bytes : List ℕ) (place : ℕ) (wire : WireFault) → HasFieldFault bytes place wire → wire_place wire ≡ place
+fault_place : (bytes : List ℕ) (place : ℕ) (wire : WireFault) → HasFieldFault bytes place wire → wire_offset wire ≡ place
 fault_place bytes place (wires.Short at) has = has.0
 fault_place bytes place (wires.LongVarint at) has = has.0
 fault_place bytes place (wires.BadWire at kind) has = has.0
@@ -80,7 +80,7 @@ lies_cons at bytes front rest field fields behind is place split others =
 
 fields_lie : (at : ℕ) (bytes : List ℕ) (fields : List WireField) (behind : Option WireFault) → AreFields bytes at fields behind → Lies at bytes fields behind
 fields_lie at bytes [] None are = record { end = at; laid = omega arith; within = omega arith; place = λ fault h. absurd h; some = λ fault h. absurd h }
-fields_lie at bytes [] (Some wire) are = record { end = at; laid = omega arith; within = omega arith; place = λ fault h. ap place_of h ∙ fault_place bytes at wire are; some = λ fault h. omega (arith, fault_not_empty bytes at wire are) }
+fields_lie at bytes [] (Some wire) are = record { end = at; laid = omega arith; within = omega arith; place = λ fault h. ap fault_offset h ∙ fault_place bytes at wire are; some = λ fault h. omega (arith, fault_not_empty bytes at wire are) }
 fields_lie at bytes (field ∷ fields) None (front, rest, is, place, split, spells) =
     lies_cons at bytes front rest field fields None is place split (fields_lie (at + length front) rest fields None spells)
 fields_lie at bytes (field ∷ fields) (Some wire) (front, rest, is, place, split, breaks) =
@@ -101,7 +101,7 @@ hold_bytes at bytes (field ∷ fields) (Some wire) are (front, rest, is, place, 
 pub record Faulty {S : Type 0} (step : S → WireField → Result S MessageFault) (Inv : List WireField → S → Type 0) (inside : InField) : Type 0 where
   pub refused : (before : List WireField) (s : S) (x : WireField) (d : MessageFault) → HoldsBytes x → x.at < x.body_at → Inv before s → step s x ≡ Err d → inside before x d × ((g : MessageFault) → inside before x g → SameOrBehind d g)
   pub taken : (before : List WireField) (s u : S) (x : WireField) → HoldsBytes x → x.at < x.body_at → Inv before s → step s x ≡ Ok u → Inv (before ++ x ∷ []) u × ((g : MessageFault) → inside before x g → ⊥)
-  pub within : (before : List WireField) (x : WireField) (g : MessageFault) → x.at < x.body_at → inside before x g → (x.at ≤ place_of g) × (place_of g < field_end x)
+  pub within : (before : List WireField) (x : WireField) (g : MessageFault) → x.at < x.body_at → inside before x g → (x.at ≤ fault_offset g) × (fault_offset g < field_end x)
 
 -- what a message is told to be, against the faults that stand in it
 pub record Judged {S : Type 0} (m : Result S MessageFault) (Stands : MessageFault → Type 0) : Type 0 where
@@ -112,7 +112,7 @@ pub err_is : {A : Type 0} (f d : MessageFault) → ◌≡◌ {A = Result A Messa
 err_is f d e = cc
 
 module _ {S : Type 0} (step : S → WireField → Result S MessageFault) (Inv : List WireField → S → Type 0) (inside : InField) (faulty : Faulty step Inv inside) where
-  bounds : (before fields : List WireField) (base end : ℕ) (g : MessageFault) → Laid base fields end → StandsAmong inside before fields g → (base ≤ place_of g) × (place_of g < end)
+  bounds : (before fields : List WireField) (base end : ℕ) (g : MessageFault) → Laid base fields end → StandsAmong inside before fields g → (base ≤ fault_offset g) × (fault_offset g < end)
   bounds before [] base end g laid stands = absurd stands
   bounds before (x ∷ fields) base end g laid (inl here) =
       let w = faulty.within before x g laid.1 here in
@@ -177,7 +177,7 @@ module _ {S : Type 0} (step : S → WireField → Result S MessageFault) (Inv : 
       let same = sym (listed at bytes stands.fields stands.behind stands.are_fields) ∙ listed at bytes fields behind are in
       subst (λ (l : Listed WireField). Here l g) same stands.stands
 
-  pub message_within : (at : ℕ) (bytes : List ℕ) (g : MessageFault) → StandsIn inside at bytes g → (at ≤ place_of g) × (place_of g < at + length bytes)
+  pub message_within : (at : ℕ) (bytes : List ℕ) (g : MessageFault) → StandsIn inside at bytes g → (at ≤ fault_offset g) × (fault_offset g < at + length bytes)
   message_within at bytes g stands =
       let lie = fields_lie at bytes stands.fields stands.behind stands.are_fields in
       elim stands.stands [
@@ -188,7 +188,7 @@ module _ {S : Type 0} (step : S → WireField → Result S MessageFault) (Inv : 
   abbrev First : ℕ → List ℕ → MessageFault → Type 0
   First at bytes d = StandsIn inside at bytes d × ((g : MessageFault) → StandsIn inside at bytes g → SameOrBehind d g)
 
-  ended_by : (at : ℕ) (bytes : List ℕ) (fields : List WireField) (behind : Option WireFault) (d : MessageFault) (u : S) → AreFields bytes at fields behind → ((g : MessageFault) → StandsAmong inside [] fields g → ⊥) → ended behind u ≡ Err d → First at bytes d
+  ended_by : (at : ℕ) (bytes : List ℕ) (fields : List WireField) (behind : Option WireFault) (d : MessageFault) (u : S) → AreFields bytes at fields behind → ((g : MessageFault) → StandsAmong inside [] fields g → ⊥) → with_end behind u ≡ Err d → First at bytes d
   ended_by at bytes fields None d u are none e = absurd (err_not_ok d u (sym e))
   ended_by at bytes fields (Some wire) d u are none e =
       let same = err_is (faults.Wire wire) d e in
@@ -201,7 +201,7 @@ module _ {S : Type 0} (step : S → WireField → Result S MessageFault) (Inv : 
       )
 
   whole_by : (start : S) (at : ℕ) (bytes : List ℕ) (fields : List WireField) (behind : Option WireFault) (d : MessageFault) (r : Result S MessageFault) → AreFields bytes at fields behind → Each HoldsBytes fields → Inv [] start
-      → steps step start fields ≡ r → (r >>= ended behind) ≡ Err d → First at bytes d
+      → steps step start fields ≡ r → (r >>= with_end behind) ≡ Err d → First at bytes d
   whole_by start at bytes fields behind d (Ok u) are holds inv is e =
       let lie = fields_lie at bytes fields behind are in
       ended_by at bytes fields behind d u are (steps_taken [] start u fields at lie.end lie.laid holds inv is) e
@@ -217,7 +217,7 @@ module _ {S : Type 0} (step : S → WireField → Result S MessageFault) (Inv : 
         ],
       )
 
-  no_fault : (behind : Option WireFault) (u t : S) (g : MessageFault) → ended behind u ≡ Ok t → IsBehind behind g → ⊥
+  no_fault : (behind : Option WireFault) (u t : S) (g : MessageFault) → with_end behind u ≡ Ok t → IsBehind behind g → ⊥
   no_fault None u t g e h = h
   no_fault (Some wire) u t g e h = err_not_ok (faults.Wire wire) t e
 
@@ -228,7 +228,7 @@ module _ {S : Type 0} (step : S → WireField → Result S MessageFault) (Inv : 
       record {
         refused = λ d e. whole_by start at bytes fields behind d (steps step start fields) are holds inv refl (sym same ∙ e);
         taken = λ t e g stands.
-            let u = parts_of (steps step start fields) (ended behind) t (sym same ∙ e) in
+            let u = parts_of (steps step start fields) (with_end behind) t (sym same ∙ e) in
             let lie = fields_lie at bytes fields behind are in
             elim (stands_here at bytes fields behind g are stands) [
               | inl h ↦ no_fault behind u.0 t g u.2 h

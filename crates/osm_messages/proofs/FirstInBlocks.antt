@@ -11,11 +11,11 @@ use Rattle.osm_messages.specs.declared.kind.ObjectKind.TheVariants as kinds
 use Rattle.osm_messages.specs.Walks.{◌>>=◌, with_bytes}
 use Rattle.osm_messages.specs.Texts.{texts_in}
 use Rattle.osm_messages.specs.Headers.{features_in}
-use Rattle.osm_messages.specs.Numbers.{Shape, shape_of, numbers_in}
+use Rattle.osm_messages.specs.Numbers.{shape_of, numbers_in}
 use Rattle.osm_messages.specs.Groups.{Object, has_dense, object_of, with_member, group_step, group_in}
 use Rattle.osm_messages.specs.Blocks.{Block, no_block, with_table, with_group, with_field, block_step, block_in}
-use Rattle.osm_messages.specs.Means.{Part, held_part, parts, kind_of, object_by, held_object, objects_in, SpellsObject, is_dense_message}
-use Rattle.osm_messages.specs.Faults.{place_of, InField, InNone, InNumbers, InObject, InMember, InTable, InGroup, InBlock, StandsIn, IsFirst, has_dense_message}
+use Rattle.osm_messages.specs.Means.{Part, held_part, parts, kind_of_field, object_by, held_object, objects_of_fields, SpellsObject, is_dense_nodes}
+use Rattle.osm_messages.specs.Faults.{fault_offset, InField, InNone, InNumbers, InObject, InMember, InTable, InGroup, InBlock, StandsIn, IsFirst, has_dense_nodes}
 use Rattle.osm_messages.proofs.Meant.{parts_of, err_not_ok, InBytes, HoldsBytes}
 use Rattle.osm_messages.proofs.MeantGroups.{add, add_kind, member_kind, held_added, dense_same}
 use Rattle.osm_messages.proofs.MeantBlocks.{left_of, TableFrom, same_block, apart_1_2, field_means, true_not_false, not_empty}
@@ -44,7 +44,7 @@ add_judged true objects at object are le = record {
         inl (refl, sym same),
         λ g stands. elim stands [
           | inl h ↦ inl (h.1 ∙ same)
-          | inr h ↦ inr (omega (arith, ap place_of same, le, (numbers_within object.kind object.at object.bytes g h).0))
+          | inr h ↦ inr (omega (arith, ap fault_offset same, le, (numbers_within object.kind object.at object.bytes g h).0))
         ],
       );
   taken = λ t e. absurd (err_not_ok (faults.Repeated at 2) t e);
@@ -72,7 +72,7 @@ add_judged false objects at object are le =
 kind_judged : (kind : Option ObjectKind) (objects : List Object) (field : WireField) (bytes : List ℕ) → AreBytes bytes → field.at < field.body_at → Judged (add_kind kind objects field bytes) (InObject (has_dense objects) field.at (object_by field.body_at bytes kind))
 kind_judged None objects field bytes are le = nothing objects
 kind_judged (Some kinds.Node) objects field bytes are le = add_judged false objects field.at (object_of kinds.Node field bytes) are le
-kind_judged (Some kinds.Dense) objects field bytes are le = add_judged (has_dense objects) objects field.at (object_of kinds.Dense field bytes) are le
+kind_judged (Some kinds.DenseNodes) objects field bytes are le = add_judged (has_dense objects) objects field.at (object_of kinds.DenseNodes field bytes) are le
 kind_judged (Some kinds.Way) objects field bytes are le = add_judged false objects field.at (object_of kinds.Way field bytes) are le
 kind_judged (Some kinds.Relation) objects field bytes are le = add_judged false objects field.at (object_of kinds.Relation field bytes) are le
 
@@ -80,43 +80,43 @@ member_judged : (objects : List Object) (field : WireField) (content : Content) 
 member_judged objects field (Varint n) holds le = nothing objects
 member_judged objects field (Fixed64 n) holds le = nothing objects
 member_judged objects field (Bytes bytes) holds le =
-    subst (λ (r : Result (List Object) MessageFault). Judged r (InObject (has_dense objects) field.at (object_by field.body_at bytes (kind_of field.number))))
+    subst (λ (r : Result (List Object) MessageFault). Judged r (InObject (has_dense objects) field.at (object_by field.body_at bytes (kind_of_field field.number))))
     (sym (member_kind objects field bytes))
-    (kind_judged (kind_of field.number) objects field bytes holds le)
+    (kind_judged (kind_of_field field.number) objects field bytes holds le)
 member_judged objects field (Fixed32 n) holds le = nothing objects
 
-object_within : (kind : Option ObjectKind) (had : Bool) (at body_at : ℕ) (bytes : List ℕ) (g : MessageFault) → at < body_at → InObject had at (object_by body_at bytes kind) g → (at ≤ place_of g) × (place_of g < body_at + length bytes)
+object_within : (kind : Option ObjectKind) (had : Bool) (at body_at : ℕ) (bytes : List ℕ) (g : MessageFault) → at < body_at → InObject had at (object_by body_at bytes kind) g → (at ≤ fault_offset g) × (fault_offset g < body_at + length bytes)
 object_within None had at body_at bytes g le stands = absurd stands
-object_within (Some kind) had at body_at bytes g le (inl h) = (omega (arith, ap place_of h.1), omega (arith, le, ap place_of h.1))
+object_within (Some kind) had at body_at bytes g le (inl h) = (omega (arith, ap fault_offset h.1), omega (arith, le, ap fault_offset h.1))
 object_within (Some kind) had at body_at bytes g le (inr h) =
     let w = numbers_within kind body_at bytes g h in
     (omega (arith, le, w.0), w.1)
 
-member_within : (had : Bool) (number at body_at : ℕ) (content : Content) (g : MessageFault) → at < body_at → InObject had at (held_object number body_at content) g → (at ≤ place_of g) × (place_of g < body_at + inner_length content)
+member_within : (had : Bool) (number at body_at : ℕ) (content : Content) (g : MessageFault) → at < body_at → InObject had at (held_object number body_at content) g → (at ≤ fault_offset g) × (fault_offset g < body_at + inner_length content)
 member_within had number at body_at (Varint n) g le stands = absurd stands
 member_within had number at body_at (Fixed64 n) g le stands = absurd stands
-member_within had number at body_at (Bytes bytes) g le stands = object_within (kind_of number) had at body_at bytes g le stands
+member_within had number at body_at (Bytes bytes) g le stands = object_within (kind_of_field number) had at body_at bytes g le stands
 member_within had number at body_at (Fixed32 n) g le stands = absurd stands
 
 -- ---- a group
 
 -- the objects so far are those of the fields before
 abbrev GroupInv : List WireField → List Object → Type 0
-GroupInv before s = s ≡ objects_in before
+GroupInv before s = s ≡ objects_of_fields before
 
 group_next : (before : List WireField) (s u : List Object) (x : WireField) → HoldsBytes x → GroupInv before s → group_step s x ≡ Ok u → GroupInv (before ++ x ∷ []) u
 group_next before s u x holds inv e =
     let behind = (held_added s [] u x x.content holds).0 (u, e, (sym (append-nil u), All-nil SpellsObject, tt)) in
     behind.0
-    ∙ ap (λ (l : List Object). l ++ objects_in (x ∷ [])) inv
+    ∙ ap (λ (l : List Object). l ++ objects_of_fields (x ∷ [])) inv
     ∙ sym (filter_map-append (λ (field : WireField). held_object field.number field.body_at field.content) before (x ∷ []))
 
-had_same : (objects : List Object) → has_dense objects ≡ has_dense_message objects
+had_same : (objects : List Object) → has_dense objects ≡ has_dense_nodes objects
 had_same [] = refl
-had_same (object ∷ objects) = ap (λ b. b || has_dense objects) (dense_same object.kind) ∙ ap (λ b. is_dense_message object.kind || b) (had_same objects)
+had_same (object ∷ objects) = ap (λ b. b || has_dense objects) (dense_same object.kind) ∙ ap (λ b. is_dense_nodes object.kind || b) (had_same objects)
 
-had_before : (before : List WireField) (s : List Object) → GroupInv before s → has_dense s ≡ has_dense_message (objects_in before)
-had_before before s inv = ap (λ (l : List Object). has_dense l) inv ∙ had_same (objects_in before)
+had_before : (before : List WireField) (s : List Object) → GroupInv before s → has_dense s ≡ has_dense_nodes (objects_of_fields before)
+had_before before s inv = ap (λ (l : List Object). has_dense l) inv ∙ had_same (objects_of_fields before)
 
 group_faulty : Faulty group_step GroupInv InMember
 group_faulty = record {
@@ -128,14 +128,14 @@ group_faulty = record {
     subst (λ (b : Bool). (g : MessageFault) → InObject b x.at (held_object x.number x.body_at x.content) g → ⊥) (had_before before s inv)
         ((member_judged s x x.content holds le).taken u e),
   );
-  within = λ before x g le stands. member_within (has_dense_message (objects_in before)) x.number x.at x.body_at x.content g le stands;
+  within = λ before x g le stands. member_within (has_dense_nodes (objects_of_fields before)) x.number x.at x.body_at x.content g le stands;
 }
 
 pub group_judged : (at : ℕ) (bytes : List ℕ) → AreBytes bytes → Judged (group_in at bytes) (StandsIn InMember at bytes)
 unfolding group_in
 group_judged at bytes are = message_judged group_step GroupInv InMember group_faulty [] at bytes are refl
 
-group_within : (at : ℕ) (bytes : List ℕ) (g : MessageFault) → StandsIn InMember at bytes g → (at ≤ place_of g) × (place_of g < at + length bytes)
+group_within : (at : ℕ) (bytes : List ℕ) (g : MessageFault) → StandsIn InMember at bytes g → (at ≤ fault_offset g) × (fault_offset g < at + length bytes)
 group_within at bytes g stands = message_within group_step GroupInv InMember group_faulty at bytes g stands
 
 -- ---- a string table more
@@ -153,7 +153,7 @@ table_judged (Some old) block before part are le known = record {
         inl (known, sym same),
         λ g stands. elim stands [
           | inl h ↦ inl (h.1 ∙ same)
-          | inr h ↦ inr (omega (arith, ap place_of same, le, (table_within part.body_at part.bytes g h).0))
+          | inr h ↦ inr (omega (arith, ap fault_offset same, le, (table_within part.body_at part.bytes g h).0))
         ],
       );
   taken = λ t e. absurd (err_not_ok (faults.Repeated part.at 1) t e);
@@ -224,17 +224,17 @@ field_judged block before field (Bytes bytes) holds le known =
     part_judged (eqb field.number 1) (eqb field.number 2) block before (record { at = field.at; body_at = field.body_at; bytes = bytes }) holds le known (apart_1_2 field.number)
 field_judged block before field (Fixed32 n) holds le known = neither block
 
-in_table_within : (one : Bool) (before : List Part) (at body_at : ℕ) (content : Content) (g : MessageFault) → at < body_at → InTable before (held_part one at body_at content) g → (at ≤ place_of g) × (place_of g < body_at + inner_length content)
+in_table_within : (one : Bool) (before : List Part) (at body_at : ℕ) (content : Content) (g : MessageFault) → at < body_at → InTable before (held_part one at body_at content) g → (at ≤ fault_offset g) × (fault_offset g < body_at + inner_length content)
 in_table_within one before at body_at (Varint n) g le stands = absurd stands
 in_table_within one before at body_at (Fixed64 n) g le stands = absurd stands
-in_table_within true before at body_at (Bytes bytes) g le (inl h) = (omega (arith, ap place_of h.1), omega (arith, le, ap place_of h.1))
+in_table_within true before at body_at (Bytes bytes) g le (inl h) = (omega (arith, ap fault_offset h.1), omega (arith, le, ap fault_offset h.1))
 in_table_within true before at body_at (Bytes bytes) g le (inr h) =
     let w = table_within body_at bytes g h in
     (omega (arith, le, w.0), w.1)
 in_table_within false before at body_at (Bytes bytes) g le stands = absurd stands
 in_table_within one before at body_at (Fixed32 n) g le stands = absurd stands
 
-in_group_within : (two : Bool) (at body_at : ℕ) (content : Content) (g : MessageFault) → at < body_at → InGroup (held_part two at body_at content) g → (at ≤ place_of g) × (place_of g < body_at + inner_length content)
+in_group_within : (two : Bool) (at body_at : ℕ) (content : Content) (g : MessageFault) → at < body_at → InGroup (held_part two at body_at content) g → (at ≤ fault_offset g) × (fault_offset g < body_at + inner_length content)
 in_group_within two at body_at (Varint n) g le stands = absurd stands
 in_group_within two at body_at (Fixed64 n) g le stands = absurd stands
 in_group_within true at body_at (Bytes bytes) g le stands =
@@ -291,7 +291,7 @@ first_only {S = S} m inside at bytes judged fault = (
       record {
         stands = r.0;
         first = λ other stands. elim (r.1 other stands) [
-          | inl same ↦ omega (arith, ap place_of same)
+          | inl same ↦ omega (arith, ap fault_offset same)
           | inr behind ↦ omega (arith, behind)
         ];
       },

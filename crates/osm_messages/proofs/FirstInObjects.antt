@@ -9,13 +9,13 @@ use Rattle.wire_read.proofs.Packed.{is_read_one_way}
 use Rattle.wire_read.proofs.MessageLaw.{packed_is_computed}
 use Rattle.osm_messages.specs.declared.fault.MessageFault.{MessageFault}
 use Rattle.osm_messages.specs.declared.fault.MessageFault.TheVariants as faults
-use Rattle.osm_messages.specs.Walks.{◌>>=◌, ended, walk}
+use Rattle.osm_messages.specs.Walks.{◌>>=◌, with_end, walk}
 use Rattle.osm_messages.specs.Texts.{text_step, texts_in}
 use Rattle.osm_messages.specs.Headers.{feature_step, features_in}
 use Rattle.osm_messages.specs.declared.kind.ObjectKind.{ObjectKind}
-use Rattle.osm_messages.specs.Numbers.{Shape, shape_of, is_among, with_number, with_packed, with_held, number_step, numbers_in}
+use Rattle.osm_messages.specs.Numbers.{Shape, shape_of, is_field_among, with_number, with_packed, with_held, number_step, numbers_in}
 use Rattle.osm_messages.specs.Means.{Part, holds_many}
-use Rattle.osm_messages.specs.Faults.{wire_place, place_of, InNone, InPacked, InList, InNumbers, StandsIn}
+use Rattle.osm_messages.specs.Faults.{wire_offset, fault_offset, InNone, InPacked, InList, InNumbers, StandsIn}
 use Rattle.osm_messages.proofs.Meant.{err_not_ok, InBytes}
 use Rattle.osm_messages.proofs.MeantNumbers.{take_step, with_numbers, many_same}
 use Rattle.osm_messages.proofs.FirstFaults.{Faulty, Judged, err_is, message_within, message_judged}
@@ -53,12 +53,12 @@ pub texts_judged : (at : ℕ) (bytes : List ℕ) → AreBytes bytes → Judged (
 unfolding texts_in
 texts_judged at bytes are = message_judged text_step Any InNone texts_faulty [] at bytes are tt
 
-pub table_within : (at : ℕ) (bytes : List ℕ) (g : MessageFault) → StandsIn InNone at bytes g → (at ≤ place_of g) × (place_of g < at + length bytes)
+pub table_within : (at : ℕ) (bytes : List ℕ) (g : MessageFault) → StandsIn InNone at bytes g → (at ≤ fault_offset g) × (fault_offset g < at + length bytes)
 table_within at bytes g stands = message_within text_step Any InNone texts_faulty at bytes g stands
 
 -- ---- packed numbers
 
-number_place : (bytes : List ℕ) (place : ℕ) (wire : WireFault) → HasFault bytes place wire → wire_place wire ≡ place
+number_place : (bytes : List ℕ) (place : ℕ) (wire : WireFault) → HasFault bytes place wire → wire_offset wire ≡ place
 number_place bytes place (wires.Short at) has = has.0
 number_place bytes place (wires.LongVarint at) has = has.0
 number_place bytes place (wires.BadWire at kind) has = absurd has
@@ -70,16 +70,16 @@ number_some bytes place (wires.LongVarint at) has = omega (arith, has.1)
 number_some bytes place (wires.BadWire at kind) has = absurd has
 number_some bytes place (wires.BadNumber at) has = absurd has
 
-breaks_within : (bytes : List ℕ) (at : ℕ) (numbers : List ℕ) (wire : WireFault) → BreaksNumbers bytes at numbers wire → (at ≤ wire_place wire) × (wire_place wire < at + length bytes)
+breaks_within : (bytes : List ℕ) (at : ℕ) (numbers : List ℕ) (wire : WireFault) → BreaksNumbers bytes at numbers wire → (at ≤ wire_offset wire) × (wire_offset wire < at + length bytes)
 breaks_within bytes at [] wire has = (omega (arith, number_place bytes at wire has), omega (arith, number_place bytes at wire has, number_some bytes at wire has))
 breaks_within bytes at (n ∷ numbers) wire (front, rest, is, split, breaks) =
     let w = breaks_within rest (at + length front) numbers wire breaks in
     (omega (arith, w.0), omega (arith, w.1, length-append front rest, ap length split))
 
-packed_within : (bytes : List ℕ) (at : ℕ) (g : MessageFault) → InPacked at bytes g → (at ≤ place_of g) × (place_of g < at + length bytes)
+packed_within : (bytes : List ℕ) (at : ℕ) (g : MessageFault) → InPacked at bytes g → (at ≤ fault_offset g) × (fault_offset g < at + length bytes)
 packed_within bytes at g is =
     let w = breaks_within bytes at is.numbers is.wire is.breaks in
-    (omega (arith, w.0, ap place_of is.fault_is), omega (arith, w.1, ap place_of is.fault_is))
+    (omega (arith, w.0, ap fault_offset is.fault_is), omega (arith, w.1, ap fault_offset is.fault_is))
 
 packed_judged : (field at : ℕ) (bytes : List ℕ) (s : List (ℕ × ℕ)) → AreBytes bytes → Judged (with_packed field s at bytes) (InPacked at bytes)
 packed_judged field at bytes s are = elim (is_read_one_way bytes at are).some [
@@ -92,7 +92,7 @@ packed_judged field at bytes s are = elim (is_read_one_way bytes at are).some [
 
     spelled : (numbers : List ℕ) → SpellsNumbers bytes numbers → Judged (with_packed field s at bytes) (InPacked at bytes)
     spelled numbers spells =
-        let whole = ap (walk (with_number field) s) ((packed_is_computed bytes at).spelled numbers spells) ∙ ap (λ r. r >>= ended None) (with_numbers field s numbers) in
+        let whole = ap (walk (with_number field) s) ((packed_is_computed bytes at).spelled numbers spells) ∙ ap (λ r. r >>= with_end None) (with_numbers field s numbers) in
         record {
           refused = λ d e. absurd (err_not_ok d _ (sym e ∙ whole));
           taken = λ t e g is. one.not_both numbers is.numbers is.wire spells is.breaks;
@@ -100,7 +100,7 @@ packed_judged field at bytes s are = elim (is_read_one_way bytes at are).some [
 
     broken : (numbers : List ℕ) (wire : WireFault) → BreaksNumbers bytes at numbers wire → Judged (with_packed field s at bytes) (InPacked at bytes)
     broken numbers wire breaks =
-        let whole : with_packed field s at bytes ≡ Err (faults.Wire wire) = ap (walk (with_number field) s) ((packed_is_computed bytes at).broken numbers wire breaks) ∙ ap (λ r. r >>= ended (Some wire)) (with_numbers field s numbers) in
+        let whole : with_packed field s at bytes ≡ Err (faults.Wire wire) = ap (walk (with_number field) s) ((packed_is_computed bytes at).broken numbers wire breaks) ∙ ap (λ r. r >>= with_end (Some wire)) (with_numbers field s numbers) in
         record {
           refused = λ d e.
               let same = err_is (faults.Wire wire) d (sym whole ∙ e) in (
@@ -133,13 +133,13 @@ list_judged false field at bytes s are = record { refused = λ d e. absurd (err_
     false_not_true : false ≡ true → ⊥
     false_not_true e = cc
 
-held_judged : (shape : Shape) (field at : ℕ) (content : Content) (s : List (ℕ × ℕ)) → InBytes content → Judged (with_held shape field at content s) (InList (is_among field shape.lists) at content)
-held_judged shape field at (Varint n) s holds = varint_judged (is_among field shape.singles || is_among field shape.lists) field n s
+held_judged : (shape : Shape) (field at : ℕ) (content : Content) (s : List (ℕ × ℕ)) → InBytes content → Judged (with_held shape field at content s) (InList (is_field_among field shape.lists) at content)
+held_judged shape field at (Varint n) s holds = varint_judged (is_field_among field shape.singles || is_field_among field shape.lists) field n s
 held_judged shape field at (Fixed64 n) s holds = nothing s
-held_judged shape field at (Bytes bytes) s holds = list_judged (is_among field shape.lists) field at bytes s holds
+held_judged shape field at (Bytes bytes) s holds = list_judged (is_field_among field shape.lists) field at bytes s holds
 held_judged shape field at (Fixed32 n) s holds = nothing s
 
-list_within : (is_list : Bool) (at : ℕ) (content : Content) (g : MessageFault) → InList is_list at content g → (at ≤ place_of g) × (place_of g < at + inner_length content)
+list_within : (is_list : Bool) (at : ℕ) (content : Content) (g : MessageFault) → InList is_list at content g → (at ≤ fault_offset g) × (fault_offset g < at + inner_length content)
 list_within is_list at (Varint n) g stands = absurd stands
 list_within is_list at (Fixed64 n) g stands = absurd stands
 list_within is_list at (Bytes bytes) g stands = packed_within bytes at g stands.1
@@ -161,5 +161,5 @@ pub numbers_judged : (kind : ObjectKind) (at : ℕ) (bytes : List ℕ) → AreBy
 unfolding numbers_in
 numbers_judged kind at bytes are = message_judged (number_step (shape_of kind)) Any (InNumbers kind) (numbers_faulty kind) [] at bytes are tt
 
-pub numbers_within : (kind : ObjectKind) (at : ℕ) (bytes : List ℕ) (g : MessageFault) → StandsIn (InNumbers kind) at bytes g → (at ≤ place_of g) × (place_of g < at + length bytes)
+pub numbers_within : (kind : ObjectKind) (at : ℕ) (bytes : List ℕ) (g : MessageFault) → StandsIn (InNumbers kind) at bytes g → (at ≤ fault_offset g) × (fault_offset g < at + length bytes)
 numbers_within kind at bytes g stands = message_within (number_step (shape_of kind)) Any (InNumbers kind) (numbers_faulty kind) at bytes g stands

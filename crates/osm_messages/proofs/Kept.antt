@@ -6,7 +6,7 @@ use Rattle.wire_read.specs.declared.fault.WireFault.{WireFault}
 use Rattle.wire_read.specs.Fields.{Content, Varint, Fixed64, Bytes, Fixed32, WireField, Listed, message_of}
 use Rattle.osm_messages.specs.declared.fault.MessageFault.{MessageFault}
 use Rattle.osm_messages.specs.declared.kind.ObjectKind.TheVariants as kinds
-use Rattle.osm_messages.specs.Walks.{◌>>=◌, steps, ended, walk, with_bytes}
+use Rattle.osm_messages.specs.Walks.{◌>>=◌, steps, with_end, walk, with_bytes}
 use Rattle.osm_messages.specs.Numbers.{shape_of, numbers_in}
 use Rattle.osm_messages.specs.Texts.{texts_in}
 use Rattle.osm_messages.specs.Groups.{Object, has_dense, with_object, with_dense, object_of, with_member, group_step, group_in, HasNumbers}
@@ -27,7 +27,7 @@ after_cond : {A : Type 0} (P : A → Type 0) (b : Bool) (r t : Result A MessageF
 after_cond P true r t p q = p
 after_cond P false r t p q = q
 
-after_ended : {S : Type 0} (P : S → Type 0) (fault : Option WireFault) (s : S) → P s → After P (ended fault s)
+after_ended : {S : Type 0} (P : S → Type 0) (fault : Option WireFault) (s : S) → P s → After P (with_end fault s)
 after_ended P None s p = p
 after_ended P (Some d) s p = tt
 
@@ -38,7 +38,7 @@ after_steps P step keeps s (x ∷ xs) p =
 
 after_walk : {S A : Type 0} (P : S → Type 0) (step : S → A → Result S MessageFault) → ((s : S) (x : A) → P s → After P (step s x)) → (s : S) (list : Listed A) → P s → After P (walk step s list)
 after_walk P step keeps s list p =
-    after_bind P P (steps step s list.items) (ended list.fault) (after_steps P step keeps s list.items p) (λ t q. after_ended P list.fault t q)
+    after_bind P P (steps step s list.items) (with_end list.fault) (after_steps P step keeps s list.items p) (λ t q. after_ended P list.fault t q)
 
 -- ---- groups
 
@@ -59,7 +59,7 @@ with_dense-keeps objects at object all = after_cond AllSpelled (has_dense object
 with_member-keeps : (objects : List Object) (field : WireField) (bytes : List ℕ) → AllSpelled objects → After AllSpelled (with_member objects field bytes)
 with_member-keeps objects field bytes all =
     after_cond AllSpelled (eqb field.number 1) _ _ (with_object-keeps objects (object_of kinds.Node field bytes) all)
-    (after_cond AllSpelled (eqb field.number 2) _ _ (with_dense-keeps objects field.at (object_of kinds.Dense field bytes) all)
+    (after_cond AllSpelled (eqb field.number 2) _ _ (with_dense-keeps objects field.at (object_of kinds.DenseNodes field bytes) all)
     (after_cond AllSpelled (eqb field.number 3) _ _ (with_object-keeps objects (object_of kinds.Way field bytes) all)
     (after_cond AllSpelled (eqb field.number 4) _ _ (with_object-keeps objects (object_of kinds.Relation field bytes) all) all)))
 

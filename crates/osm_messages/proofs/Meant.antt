@@ -8,7 +8,7 @@ use Rattle.wire_read.specs.Fields.{Content, Varint, Fixed64, Bytes, Fixed32, Wir
 use Rattle.wire_read.proofs.Packed.{AreBytes-rest}
 use Rattle.wire_read.proofs.MessageLaw.{message_of-spelled, message_of-broken, is_message_one_way}
 use Rattle.osm_messages.specs.declared.fault.MessageFault.{MessageFault}
-use Rattle.osm_messages.specs.Walks.{◌>>=◌, steps, ended, walk, message}
+use Rattle.osm_messages.specs.Walks.{◌>>=◌, steps, with_end, walk, message}
 use Rattle.osm_messages.specs.Means.{Together}
 use Rattle.osm_messages.proofs.Walks.{bind_ok}
 
@@ -25,7 +25,7 @@ pub parts_of : {A B : Type 0} (r : Result A MessageFault) (f : A → Result B Me
 parts_of (Ok x) f t e = (x, refl, e)
 parts_of (Err d) f t e = absurd (err_not_ok d t e)
 
-pub not_broken : {S : Type 0} (r : Result S MessageFault) (fault : WireFault) (t : S) → (r >>= ended (Some fault)) ≡ Ok t → ⊥
+pub not_broken : {S : Type 0} (r : Result S MessageFault) (fault : WireFault) (t : S) → (r >>= with_end (Some fault)) ≡ Ok t → ⊥
 not_broken (Ok x) fault t e = cc
 not_broken (Err d) fault t e = cc
 

@@ -12,7 +12,7 @@ use Rattle.osm_messages.specs.Walks.{◌>>=◌}
 use Rattle.osm_messages.specs.Texts.{texts_in}
 use Rattle.osm_messages.specs.Groups.{Object, group_in}
 use Rattle.osm_messages.specs.Blocks.{Block, no_block, with_table, with_group, with_field, block_step, block_in}
-use Rattle.osm_messages.specs.Means.{Part, held_part, held_varint, parts, varints, Together, HasTable, GivesGroup, last_signed, IsTable, IsBlock}
+use Rattle.osm_messages.specs.Means.{Part, held_part, held_varint, parts, varints, Together, HasTable, GivesGroup, last_signed, IsStringTable, IsPrimitiveBlock}
 use Rattle.osm_messages.proofs.Meant.{ok_is, parts_of, InBytes, HoldsBytes, IsMeant, message_means, moved, stopped}
 use Rattle.osm_messages.proofs.MeantNumbers.{table_means}
 use Rattle.osm_messages.proofs.MeantGroups.{group_means}
@@ -96,7 +96,7 @@ abbrev grouped : Block → List Object → Block
 grouped block objects = record block { objects = block.objects ++ objects }
 
 -- what one table says
-only : (part : Part) (others : List Part) (texts : Option (List (List ℕ))) → HasTable (part ∷ others) texts → (found : List (List ℕ)) × IsTable part.body_at part.bytes found × (others ≡ []) × (texts ≡ Some found)
+only : (part : Part) (others : List Part) (texts : Option (List (List ℕ))) → HasTable (part ∷ others) texts → (found : List (List ℕ)) × IsStringTable part.body_at part.bytes found × (others ≡ []) × (texts ≡ Some found)
 only part [] texts has = (has.0, has.1, refl, has.2)
 only part (other ∷ others) texts has = absurd has
 
@@ -241,7 +241,7 @@ block_meant = record {
   there = λ s t field fields holds. field_means s field field.content (left_of fields) t holds;
 }
 
-pub block_means : (at : ℕ) (bytes : List ℕ) → AreBytes bytes → (block : Block) → (block_in at bytes ≡ Ok block) ↔ IsBlock at bytes block
+pub block_means : (at : ℕ) (bytes : List ℕ) → AreBytes bytes → (block : Block) → (block_in at bytes ≡ Ok block) ↔ IsPrimitiveBlock at bytes block
 unfolding block_in
 block_means at bytes are block =
     let both = message_means block_step BlockFrom block_meant no_block block at bytes are in (

@@ -14,11 +14,11 @@ use Rattle.osm_messages.specs.declared.kind.ObjectKind.TheVariants as kinds
 use Rattle.osm_messages.specs.Walks.{◌>>=◌, with_bytes}
 use Rattle.osm_messages.specs.Numbers.{shape_of, numbers_in}
 use Rattle.osm_messages.specs.Groups.{Object, is_dense, has_dense, with_object, with_dense, object_of, with_member, group_step, group_in}
-use Rattle.osm_messages.specs.Means.{kind_of, object_by, held_object, objects_in, is_dense_message, dense_among, SpellsObject, IsGroup}
+use Rattle.osm_messages.specs.Means.{kind_of_field, object_by, held_object, objects_of_fields, is_dense_nodes, dense_among, SpellsObject, IsPrimitiveGroup}
 use Rattle.osm_messages.proofs.Meant.{ok_is, parts_of, InBytes, HoldsBytes, IsMeant, message_means, moved, stopped, one_more}
 use Rattle.osm_messages.proofs.MeantNumbers.{object_means}
 
--- ---- at most one dense message
+-- ---- at most one DenseNodes
 
 -- none where there was one, and at most one else
 abbrev pub OneDense : Bool → List Object → Type 0
@@ -41,9 +41,9 @@ one_by true false count One rest = (λ w. omega (arith, (rest true).0 w.1), λ f
 one_by false true count One rest = (λ w. omega (arith, (rest true).0 w.1), λ few. (refl, (rest true).1 (omega arith)))
 one_by false false count One rest = (λ w. omega (arith, (rest false).0 w.1), λ few. (refl, (rest false).1 (omega arith)))
 
-pub dense_same : (kind : ObjectKind) → is_dense kind ≡ is_dense_message kind
+pub dense_same : (kind : ObjectKind) → is_dense kind ≡ is_dense_nodes kind
 dense_same kinds.Node = refl
-dense_same kinds.Dense = refl
+dense_same kinds.DenseNodes = refl
 dense_same kinds.Way = refl
 dense_same kinds.Relation = refl
 
@@ -109,11 +109,11 @@ added false objects more t at object are is =
 abbrev pub add_kind : Option ObjectKind → List Object → WireField → List ℕ → Result (List Object) MessageFault
 add_kind None objects field bytes = Ok objects
 add_kind (Some kinds.Node) objects field bytes = with_object objects (object_of kinds.Node field bytes)
-add_kind (Some kinds.Dense) objects field bytes = with_dense objects field.at (object_of kinds.Dense field bytes)
+add_kind (Some kinds.DenseNodes) objects field bytes = with_dense objects field.at (object_of kinds.DenseNodes field bytes)
 add_kind (Some kinds.Way) objects field bytes = with_object objects (object_of kinds.Way field bytes)
 add_kind (Some kinds.Relation) objects field bytes = with_object objects (object_of kinds.Relation field bytes)
 
-pub member_kind : (objects : List Object) (field : WireField) (bytes : List ℕ) → with_member objects field bytes ≡ add_kind (kind_of field.number) objects field bytes
+pub member_kind : (objects : List Object) (field : WireField) (bytes : List ℕ) → with_member objects field bytes ≡ add_kind (kind_of_field field.number) objects field bytes
 member_kind objects field bytes =
     elim (cases_Bool (eqb field.number 1)) [
       | inl e ↦ rw e refl
@@ -133,16 +133,16 @@ kind_added : (kind : Option ObjectKind) (objects more t : List Object) (field : 
     → ((u : List Object) × (add_kind kind objects field bytes ≡ Ok u) × GroupBehind u more t) ↔ GroupBehind objects (cons_option (object_by field.body_at bytes kind) more) t
 kind_added None objects more t field bytes are = moved objects (λ u. GroupBehind u more t)
 kind_added (Some kinds.Node) objects more t field bytes are = added false objects more t field.at (object_of kinds.Node field bytes) are refl
-kind_added (Some kinds.Dense) objects more t field bytes are = added (has_dense objects) objects more t field.at (object_of kinds.Dense field bytes) are refl
+kind_added (Some kinds.DenseNodes) objects more t field bytes are = added (has_dense objects) objects more t field.at (object_of kinds.DenseNodes field bytes) are refl
 kind_added (Some kinds.Way) objects more t field bytes are = added false objects more t field.at (object_of kinds.Way field bytes) are refl
 kind_added (Some kinds.Relation) objects more t field bytes are = added false objects more t field.at (object_of kinds.Relation field bytes) are refl
 
 member_added : (objects more t : List Object) (field : WireField) (bytes : List ℕ) → AreBytes bytes
-    → ((u : List Object) × (with_member objects field bytes ≡ Ok u) × GroupBehind u more t) ↔ GroupBehind objects (cons_option (object_by field.body_at bytes (kind_of field.number)) more) t
+    → ((u : List Object) × (with_member objects field bytes ≡ Ok u) × GroupBehind u more t) ↔ GroupBehind objects (cons_option (object_by field.body_at bytes (kind_of_field field.number)) more) t
 member_added objects more t field bytes are =
-    subst (λ (r : Result (List Object) MessageFault). ((u : List Object) × (r ≡ Ok u) × GroupBehind u more t) ↔ GroupBehind objects (cons_option (object_by field.body_at bytes (kind_of field.number)) more) t)
+    subst (λ (r : Result (List Object) MessageFault). ((u : List Object) × (r ≡ Ok u) × GroupBehind u more t) ↔ GroupBehind objects (cons_option (object_by field.body_at bytes (kind_of_field field.number)) more) t)
     (sym (member_kind objects field bytes))
-    (kind_added (kind_of field.number) objects more t field bytes are)
+    (kind_added (kind_of_field field.number) objects more t field bytes are)
 
 pub held_added : (objects more t : List Object) (field : WireField) (content : Content) → InBytes content
     → ((u : List Object) × (with_bytes objects content (with_member objects field) ≡ Ok u) × GroupBehind u more t) ↔ GroupBehind objects (cons_option (held_object field.number field.body_at content) more) t
@@ -154,7 +154,7 @@ held_added objects more t field (Fixed32 n) holds = moved objects (λ u. GroupBe
 -- ---- the group
 
 abbrev GroupFrom : List Object → List WireField → List Object → Type 0
-GroupFrom objects fields t = GroupBehind objects (objects_in fields) t
+GroupFrom objects fields t = GroupBehind objects (objects_of_fields fields) t
 
 group_meant : IsMeant group_step HoldsBytes GroupFrom
 group_meant = record {
@@ -162,17 +162,17 @@ group_meant = record {
     λ e. (sym e ∙ sym (append-nil s), All-nil SpellsObject, tt),
     λ r. sym (append-nil s) ∙ sym r.0,
   );
-  there = λ s t field fields holds. held_added s (objects_in fields) t field field.content holds;
+  there = λ s t field fields holds. held_added s (objects_of_fields fields) t field field.content holds;
 }
 
-pub group_means : (at : ℕ) (bytes : List ℕ) → AreBytes bytes → (objects : List Object) → (group_in at bytes ≡ Ok objects) ↔ IsGroup at bytes objects
+pub group_means : (at : ℕ) (bytes : List ℕ) → AreBytes bytes → (objects : List Object) → (group_in at bytes ≡ Ok objects) ↔ IsPrimitiveGroup at bytes objects
 unfolding group_in
 group_means at bytes are objects =
     let both = message_means group_step GroupFrom group_meant [] objects at bytes are in (
       λ e.
           let by = both.0 e in
           let same = by.leads.0 in
-          let few : length (dense_among (objects_in by.fields)) ≤ 1 = omega (arith, (one_dense (objects_in by.fields) false).0 by.leads.2) in
+          let few : length (dense_among (objects_of_fields by.fields)) ≤ 1 = omega (arith, (one_dense (objects_of_fields by.fields) false).0 by.leads.2) in
           record {
             fields = by.fields;
             spells = by.spells;
@@ -181,10 +181,10 @@ group_means at bytes are objects =
             each_spelled = subst (λ (l : List Object). All SpellsObject l) (sym same) by.leads.1;
           },
       λ is.
-          let few : length (dense_among (objects_in is.fields)) + count_of false ≤ 1 = omega (arith, subst (λ (l : List Object). length (dense_among l) ≤ 1) is.objects_are is.one_dense) in
+          let few : length (dense_among (objects_of_fields is.fields)) + count_of false ≤ 1 = omega (arith, subst (λ (l : List Object). length (dense_among l) ≤ 1) is.objects_are is.one_dense) in
           both.1 (record {
             fields = is.fields;
             spells = is.spells;
-            leads = (is.objects_are, subst (λ (l : List Object). All SpellsObject l) is.objects_are is.each_spelled, (one_dense (objects_in is.fields) false).1 few);
+            leads = (is.objects_are, subst (λ (l : List Object). All SpellsObject l) is.objects_are is.each_spelled, (one_dense (objects_of_fields is.fields) false).1 few);
           }),
     )

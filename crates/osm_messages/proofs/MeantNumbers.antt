@@ -13,8 +13,8 @@ use Rattle.osm_messages.specs.Texts.{text_step, texts_in}
 use Rattle.osm_messages.specs.Headers.{feature_step, features_in}
 use Rattle.osm_messages.specs.declared.kind.ObjectKind.{ObjectKind}
 use Rattle.osm_messages.specs.declared.kind.ObjectKind.TheVariants as kinds
-use Rattle.osm_messages.specs.Numbers.{Shape, shape_of, is_among, with_number, with_packed, with_held, number_step, numbers_in}
-use Rattle.osm_messages.specs.Means.{Part, held_part, parts, Together, IsHeader, IsTable, holds_one, holds_many, HoldsPacked, HoldsNumbers, GivesNumbers, IsObject}
+use Rattle.osm_messages.specs.Numbers.{shape_of, is_field_among, with_number, with_packed, with_held, number_step, numbers_in}
+use Rattle.osm_messages.specs.Means.{Part, held_part, parts, Together, IsHeaderBlock, IsStringTable, holds_one, holds_many, HoldsPacked, HoldsNumbers, GivesNumbers, IsObject}
 use Rattle.osm_messages.proofs.Walks.{bind_ok}
 use Rattle.osm_messages.proofs.Meant.{ok_is, not_broken, InBytes, HoldsBytes, IsMeant, message_means, Behind, Appends, appends_meant, via, moved, one_more}
 
@@ -52,7 +52,7 @@ features_meant = record {
   there = λ s t field fields holds. taken view_feature (eqb field.number 4) s t field.at field.body_at field.content (parts 4 fields);
 }
 
-pub header_means : (at : ℕ) (bytes : List ℕ) → AreBytes bytes → (features : List (ℕ × List ℕ)) → (features_in at bytes ≡ Ok features) ↔ IsHeader at bytes features
+pub header_means : (at : ℕ) (bytes : List ℕ) → AreBytes bytes → (features : List (ℕ × List ℕ)) → (features_in at bytes ≡ Ok features) ↔ IsHeaderBlock at bytes features
 unfolding features_in
 header_means at bytes are features =
     let both = message_means feature_step (Taken view_feature 4) features_meant [] features at bytes are in (
@@ -71,7 +71,7 @@ texts_meant = record {
   there = λ s t field fields holds. taken view_text (eqb field.number 1) s t field.at field.body_at field.content (parts 1 fields);
 }
 
-pub table_means : (at : ℕ) (bytes : List ℕ) → AreBytes bytes → (texts : List (List ℕ)) → (texts_in at bytes ≡ Ok texts) ↔ IsTable at bytes texts
+pub table_means : (at : ℕ) (bytes : List ℕ) → AreBytes bytes → (texts : List (List ℕ)) → (texts_in at bytes ≡ Ok texts) ↔ IsStringTable at bytes texts
 unfolding texts_in
 table_means at bytes are texts =
     let both = message_means text_step (Taken view_text 1) texts_meant [] texts at bytes are in (
@@ -155,30 +155,30 @@ or_five : (a b c d e : Bool) → (a || (b || (c || (d || (e || false))))) ≡ (a
 or_five true b c d e = refl
 or_five false b c d e = or_four b c d e
 
-one_same : (kind : ObjectKind) (n : ℕ) → is_among n (shape_of kind).singles ≡ holds_one kind n
+one_same : (kind : ObjectKind) (n : ℕ) → is_field_among n (shape_of kind).singles ≡ holds_one kind n
 one_same kinds.Node n = or_three (eqb n 1) (eqb n 8) (eqb n 9)
-one_same kinds.Dense n = refl
+one_same kinds.DenseNodes n = refl
 one_same kinds.Way n = or_one (eqb n 1)
 one_same kinds.Relation n = or_one (eqb n 1)
 
-lists_of_ways : (n : ℕ) → is_among n (shape_of kinds.Way).lists ≡ holds_many kinds.Way n
+lists_of_ways : (n : ℕ) → is_field_among n (shape_of kinds.Way).lists ≡ holds_many kinds.Way n
 lists_of_ways n = or_three (eqb n 2) (eqb n 3) (eqb n 8)
 
-pub many_same : (kind : ObjectKind) (n : ℕ) → is_among n (shape_of kind).lists ≡ holds_many kind n
+pub many_same : (kind : ObjectKind) (n : ℕ) → is_field_among n (shape_of kind).lists ≡ holds_many kind n
 many_same kinds.Node n = or_two (eqb n 2) (eqb n 3)
-many_same kinds.Dense n = or_four (eqb n 1) (eqb n 8) (eqb n 9) (eqb n 10)
+many_same kinds.DenseNodes n = or_four (eqb n 1) (eqb n 8) (eqb n 9) (eqb n 10)
 many_same kinds.Way n = lists_of_ways n
 many_same kinds.Relation n = or_five (eqb n 2) (eqb n 3) (eqb n 8) (eqb n 9) (eqb n 10)
 
 held_means : (kind : ObjectKind) (field at : ℕ) (content : Content) → InBytes content → (s u : List (ℕ × ℕ)) → (with_held (shape_of kind) field at content s ≡ Ok u) ↔ HeldBehind field (HoldsNumbers kind field content) s u
 held_means kind field at (Varint n) holds s u =
-    let single = is_among field (shape_of kind).singles in
-    let some = is_among field (shape_of kind).lists in
+    let single = is_field_among field (shape_of kind).singles in
+    let some = is_field_among field (shape_of kind).lists in
     subst (λ (b : Bool). (with_held (shape_of kind) field at (Varint n) s ≡ Ok u) ↔ HeldBehind field (λ held. held ≡ cond (holds_one kind field || b) (n ∷ []) []) s u) (many_same kind field)
     (subst (λ (b : Bool). (with_held (shape_of kind) field at (Varint n) s ≡ Ok u) ↔ HeldBehind field (λ held. held ≡ cond (b || some) (n ∷ []) []) s u) (one_same kind field) (holds_varint (single || some) field n s u))
 held_means kind field at (Fixed64 n) holds s u = holds_none field s u
 held_means kind field at (Bytes bytes) holds s u =
-    let some = is_among field (shape_of kind).lists in
+    let some = is_field_among field (shape_of kind).lists in
     subst (λ (b : Bool). (with_held (shape_of kind) field at (Bytes bytes) s ≡ Ok u) ↔ HeldBehind field (HoldsPacked b bytes) s u) (many_same kind field) (holds_packed some field at bytes holds s u)
 held_means kind field at (Fixed32 n) holds s u = holds_none field s u
 

@@ -47,7 +47,7 @@ member-seen before objects field bytes =
     elim (cases_Bool (eqb field.number 1)) [
       | inl e ↦ rw e (object-seen before objects (object_of kinds.Node field bytes))
       | inr e ↦ rw e (elim (cases_Bool (eqb field.number 2)) [
-        | inl f ↦ rw f (dense-seen before objects field.at (object_of kinds.Dense field bytes))
+        | inl f ↦ rw f (dense-seen before objects field.at (object_of kinds.DenseNodes field bytes))
         | inr f ↦ rw f (elim (cases_Bool (eqb field.number 3)) [
           | inl g ↦ rw g (object-seen before objects (object_of kinds.Way field bytes))
           | inr g ↦ rw g (elim (cases_Bool (eqb field.number 4)) [

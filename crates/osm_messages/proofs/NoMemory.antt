@@ -5,10 +5,10 @@ use Rattle.wire_read.specs.declared.fault.WireFault.{WireFault}
 use Rattle.wire_read.specs.Fields.{Content, Varint, Fixed64, Bytes, Fixed32, WireField, Listed, message_of, packed_of}
 use Rattle.osm_messages.specs.declared.fault.MessageFault.{MessageFault}
 use Rattle.osm_messages.specs.declared.kind.ObjectKind.TheVariants as object_kinds
-use Rattle.osm_messages.specs.Walks.{◌>>=◌, steps, ended, walk, with_bytes}
+use Rattle.osm_messages.specs.Walks.{◌>>=◌, steps, with_end, walk, with_bytes}
 use Rattle.osm_messages.specs.Headers.{feature_step, features_in}
 use Rattle.osm_messages.specs.Texts.{text_step, texts_in}
-use Rattle.osm_messages.specs.Numbers.{Shape, is_among, shape_of, with_number, with_packed, with_held, number_step, numbers_in}
+use Rattle.osm_messages.specs.Numbers.{Shape, is_field_among, shape_of, with_number, with_packed, with_held, number_step, numbers_in}
 use Rattle.osm_messages.specs.Groups.{Object, has_dense, with_object as with_one, with_member, object_of, group_step, group_in, with_dense}
 use Rattle.osm_messages.specs.Blocks.{Block, no_block, with_part, with_field, block_step, block_in, with_table, with_group}
 use Rattle.osm_messages.specs.declared.fault.MessageFault.TheVariants as faults
@@ -33,12 +33,12 @@ steps-of : {S A : Type 0} (step : S → A → Result S MessageFault) → ((s : S
 steps-of step each s [] = tt
 steps-of step each s (x ∷ xs) = then-of (step s x) (λ t. steps step t xs) (each s x) (λ t. steps-of step each t xs)
 
-ended-of : {S : Type 0} (fault : Option WireFault) (s : S) → Spelled (ended fault s)
-ended-of None s = tt
-ended-of (Some fault) s = tt
+with_end-of : {S : Type 0} (fault : Option WireFault) (s : S) → Spelled (with_end fault s)
+with_end-of None s = tt
+with_end-of (Some fault) s = tt
 
 walk-of : {S A : Type 0} (step : S → A → Result S MessageFault) → ((s : S) (x : A) → Spelled (step s x)) → (s : S) (list : Listed A) → Spelled (walk step s list)
-walk-of step each s list = then-of (steps step s list.items) (λ t. ended list.fault t) (steps-of step each s list.items) (λ t. ended-of list.fault t)
+walk-of step each s list = then-of (steps step s list.items) (λ t. with_end list.fault t) (steps-of step each s list.items) (λ t. with_end-of list.fault t)
 
 with_bytes-of : {S : Type 0} (s : S) (content : Content) (f : List ℕ → Result S MessageFault) → ((bytes : List ℕ) → Spelled (f bytes)) → Spelled (with_bytes s content f)
 with_bytes-of s (Varint n) f h = tt
@@ -57,7 +57,7 @@ texts_in-of at bytes = walk-of text_step (λ texts field. with_bytes-of texts fi
 with_held-of : (shape : Shape) (number at : ℕ) (content : Content) (numbers : List (ℕ × ℕ)) → Spelled (with_held shape number at content numbers)
 with_held-of shape number at (Varint n) numbers = either Spelled _ (with_number number numbers n) (Ok numbers) tt tt
 with_held-of shape number at (Fixed64 n) numbers = tt
-with_held-of shape number at (Bytes bytes) numbers = either Spelled (is_among number shape.lists) (with_packed number numbers at bytes) (Ok numbers) (walk-of (with_number number) (λ s n. tt) numbers (packed_of at bytes)) tt
+with_held-of shape number at (Bytes bytes) numbers = either Spelled (is_field_among number shape.lists) (with_packed number numbers at bytes) (Ok numbers) (walk-of (with_number number) (λ s n. tt) numbers (packed_of at bytes)) tt
 with_held-of shape number at (Fixed32 n) numbers = tt
 
 numbers_in-of : (shape : Shape) (at : ℕ) (bytes : List ℕ) → Spelled (numbers_in shape at bytes)
@@ -70,8 +70,8 @@ with_one-of objects object = then-of (numbers_in (shape_of object.kind) object.a
 with_member-of : (objects : List Object) (field : WireField) (bytes : List ℕ) → Spelled (with_member objects field bytes)
 with_member-of objects field bytes =
     either Spelled (field.number == 1) (with_one objects (object_of object_kinds.Node field bytes)) _ (with_one-of objects (object_of object_kinds.Node field bytes))
-    (either Spelled (field.number == 2) (with_dense objects field.at (object_of object_kinds.Dense field bytes)) _
-    (either Spelled (has_dense objects) (Err (faults.Repeated field.at 2)) (with_one objects (object_of object_kinds.Dense field bytes)) tt (with_one-of objects (object_of object_kinds.Dense field bytes)))
+    (either Spelled (field.number == 2) (with_dense objects field.at (object_of object_kinds.DenseNodes field bytes)) _
+    (either Spelled (has_dense objects) (Err (faults.Repeated field.at 2)) (with_one objects (object_of object_kinds.DenseNodes field bytes)) tt (with_one-of objects (object_of object_kinds.DenseNodes field bytes)))
     (either Spelled (field.number == 3) (with_one objects (object_of object_kinds.Way field bytes)) _ (with_one-of objects (object_of object_kinds.Way field bytes))
     (either Spelled (field.number == 4) (with_one objects (object_of object_kinds.Relation field bytes)) (Ok objects) (with_one-of objects (object_of object_kinds.Relation field bytes)) tt)))
 

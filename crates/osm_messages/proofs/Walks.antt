@@ -7,7 +7,7 @@ use Rattle.wire_read.specs.Fields.{WireField, seen, NextField, Listed, with_item
 use Rattle.wire_read.proofs.Lists.{message_of-nil, message_of-field, message_of-fault}
 use Rattle.osm_messages.specs.declared.fault.MessageFault.{MessageFault}
 use Rattle.osm_messages.specs.declared.fault.MessageFault.TheVariants as faults
-use Rattle.osm_messages.specs.Walks.{◌>>=◌, steps, ended, walk, message}
+use Rattle.osm_messages.specs.Walks.{◌>>=◌, steps, with_end, walk, message}
 
 -- ---- results
 
@@ -26,13 +26,13 @@ bind_ok (Err d) = refl
 -- ---- one item
 
 pub walk-item : {S A : Type 0} (step : S → A → Result S MessageFault) (s : S) (x : A) (list : Listed A) → walk step s (with_item x list) ≡ (step s x >>= λ t. walk step t list)
-walk-item step s x list = bind_assoc (step s x) (λ t. steps step t list.items) (ended list.fault)
+walk-item step s x list = bind_assoc (step s x) (λ t. steps step t list.items) (with_end list.fault)
 
 -- ---- the same walk over what is seen of the states
 
-pub ended-seen : {S T : Type 0} (f : S → T) (fault : Option WireFault) (s : S) → (ended fault s >>= λ t. Ok (f t)) ≡ ended fault (f s)
-ended-seen f None s = refl
-ended-seen f (Some d) s = refl
+pub with_end-seen : {S T : Type 0} (f : S → T) (fault : Option WireFault) (s : S) → (with_end fault s >>= λ t. Ok (f t)) ≡ with_end fault (f s)
+with_end-seen f None s = refl
+with_end-seen f (Some d) s = refl
 
 -- each step of the one is, as it is seen, a step of the other
 abbrev pub IsSeenAs : {S T A : Type 0} → (S → T) → (S → A → Result S MessageFault) → (T → A → Result T MessageFault) → Type 0
@@ -49,10 +49,10 @@ steps-seen f step other same s (x ∷ xs) =
 pub walk-seen : {S T A : Type 0} (f : S → T) (step : S → A → Result S MessageFault) (other : T → A → Result T MessageFault) → IsSeenAs f step other → (s : S) (list : Listed A) → (walk step s list >>= λ t. Ok (f t)) ≡ walk other (f s) list
 walk-seen f step other same s list =
     let now = steps step s list.items in
-    bind_assoc now (ended list.fault) (λ t. Ok (f t))
-    ∙ bind_same now (λ t. ended list.fault t >>= λ u. Ok (f u)) (λ t. ended list.fault (f t)) (λ t. ended-seen f list.fault t)
-    ∙ sym (bind_assoc now (λ t. Ok (f t)) (ended list.fault))
-    ∙ ap (λ r. r >>= ended list.fault) (steps-seen f step other same s list.items)
+    bind_assoc now (with_end list.fault) (λ t. Ok (f t))
+    ∙ bind_same now (λ t. with_end list.fault t >>= λ u. Ok (f u)) (λ t. with_end list.fault (f t)) (λ t. with_end-seen f list.fault t)
+    ∙ sym (bind_assoc now (λ t. Ok (f t)) (with_end list.fault))
+    ∙ ap (λ r. r >>= with_end list.fault) (steps-seen f step other same s list.items)
 
 -- ---- one field
 

@@ -11,9 +11,9 @@ use Rattle.wire_read.proofs.FieldWeights.{content_weight, field_weight, packed_w
 use Rattle.osm_messages.specs.declared.fault.MessageFault.{MessageFault}
 use Rattle.osm_messages.specs.declared.fault.MessageFault.TheVariants as faults
 use Rattle.osm_messages.specs.declared.kind.ObjectKind.TheVariants as kinds
-use Rattle.osm_messages.specs.Walks.{◌>>=◌, steps, ended, walk, message, with_bytes}
-use Rattle.osm_messages.specs.Numbers.{Shape, is_among, shape_of, with_number, with_packed, with_held, number_step, numbers_in, numbered}
-use Rattle.osm_messages.specs.Lists.{Lists, lists_of, listed}
+use Rattle.osm_messages.specs.Walks.{◌>>=◌, steps, with_end, walk, message, with_bytes}
+use Rattle.osm_messages.specs.Numbers.{Shape, is_field_among, shape_of, with_number, with_packed, with_held, number_step, numbers_in, numbered}
+use Rattle.osm_messages.specs.Lists.{Lists, number_lists, listed_numbers}
 use Rattle.osm_messages.specs.Texts.{texts_in}
 use Rattle.osm_messages.specs.Groups.{Object, has_dense, with_object, with_dense, object_of, with_member, group_step, group_in}
 use Rattle.osm_messages.specs.Blocks.{Block, no_block, with_table, with_group, with_part, with_scalar, with_field, block_step, block_in}
@@ -33,7 +33,7 @@ steps_weigh step measure weight each s t (x ∷ xs) e =
     let all = step_weighs measure s t (weight x) (sum_by weight xs) (step s x) (λ u. steps step u xs) (λ u f. each s x u f) (λ u f. steps_weigh step measure weight each u t xs f) e in
     omega (arith, all, sum_by-cons weight x xs)
 
-before_end : {S : Type 0} (r : Result S MessageFault) (fault : Option WireFault) (t : S) → (r >>= λ u. ended fault u) ≡ Ok t → r ≡ Ok t
+before_end : {S : Type 0} (r : Result S MessageFault) (fault : Option WireFault) (t : S) → (r >>= λ u. with_end fault u) ≡ Ok t → r ≡ Ok t
 before_end (Ok u) None t e = e
 before_end (Ok u) (Some d) t e = absurd (cc e)
 before_end (Err d) fault t e = absurd (cc e)
@@ -68,10 +68,10 @@ either_weighs measure false s t weight r one e = same_weighs measure s t weight 
 
 held_weighs : (shape : Shape) (field at : ℕ) (content : Content) (numbers t : List (ℕ × ℕ)) → with_held shape field at content numbers ≡ Ok t → length t ≤ length numbers + content_weight content
 held_weighs shape field at (Varint n) numbers t e =
-    either_weighs (λ (l : List (ℕ × ℕ)). length l) (is_among field shape.singles || is_among field shape.lists) numbers t 1 (with_number field numbers n) (λ u f. number_weighs field numbers n u f) e
+    either_weighs (λ (l : List (ℕ × ℕ)). length l) (is_field_among field shape.singles || is_field_among field shape.lists) numbers t 1 (with_number field numbers n) (λ u f. number_weighs field numbers n u f) e
 held_weighs shape field at (Fixed64 n) numbers t e = same_weighs (λ (l : List (ℕ × ℕ)). length l) numbers t 0 e
 held_weighs shape field at (Bytes bytes) numbers t e =
-    either_weighs (λ (l : List (ℕ × ℕ)). length l) (is_among field shape.lists) numbers t (length bytes) (with_packed field numbers at bytes)
+    either_weighs (λ (l : List (ℕ × ℕ)). length l) (is_field_among field shape.lists) numbers t (length bytes) (with_packed field numbers at bytes)
     (λ u f. omega (arith, walk_weighs (with_number field) (λ (l : List (ℕ × ℕ)). length l) (λ (n : ℕ). 1) (λ s n v g. number_weighs field s n v g) numbers u (packed_of at bytes) f, packed_weighs at bytes)) e
 held_weighs shape field at (Fixed32 n) numbers t e = same_weighs (λ (l : List (ℕ × ℕ)). length l) numbers t 0 e
 
@@ -85,7 +85,7 @@ numbers_in-few shape at bytes numbers e =
 
 -- a number is in one list at most
 abbrev held_in : List (ℕ × ℕ) → ℕ
-held_in numbers = numbers_held (lists_of numbers)
+held_in numbers = numbers_held (number_lists numbers)
 
 more_weighs : (b : Bool) (n : ℕ) (rest : List ℕ) → length (cond b (n ∷ rest) rest) ≡ length rest + cond {A = ℕ} b 1 0
 more_weighs true n rest = omega arith
@@ -126,13 +126,13 @@ lists_few ((number, n) ∷ numbers) =
       put_weighs number 10 n (numbered 10 numbers),
     )
 
-listed_few : (r : Result (List (ℕ × ℕ)) MessageFault) (most : ℕ) (lists : Lists) → ((numbers : List (ℕ × ℕ)) → r ≡ Ok numbers → length numbers ≤ most) → listed r ≡ Ok lists → numbers_held lists ≤ most
+listed_few : (r : Result (List (ℕ × ℕ)) MessageFault) (most : ℕ) (lists : Lists) → ((numbers : List (ℕ × ℕ)) → r ≡ Ok numbers → length numbers ≤ most) → listed_numbers r ≡ Ok lists → numbers_held lists ≤ most
 listed_few (Ok numbers) most lists few e =
-    let same : lists_of numbers ≡ lists = cc e in omega (arith, few numbers refl, lists_few numbers, ap numbers_held same)
+    let same : number_lists numbers ≡ lists = cc e in omega (arith, few numbers refl, lists_few numbers, ap numbers_held same)
 listed_few (Err d) most lists few e = absurd (cc e)
 
 -- the lists of an object have at most a number for each of its bytes
-pub lists_in-few : (shape : Shape) (at : ℕ) (bytes : List ℕ) (lists : Lists) → listed (numbers_in shape at bytes) ≡ Ok lists → numbers_held lists ≤ length bytes
+pub lists_in-few : (shape : Shape) (at : ℕ) (bytes : List ℕ) (lists : Lists) → listed_numbers (numbers_in shape at bytes) ≡ Ok lists → numbers_held lists ≤ length bytes
 lists_in-few shape at bytes lists e = listed_few (numbers_in shape at bytes) (length bytes) lists (λ numbers f. numbers_in-few shape at bytes numbers f) e
 
 -- ---- the objects of a block
@@ -163,7 +163,7 @@ abbrev from_way : List Object → WireField → List ℕ → Result (List Object
 from_way objects field bytes = cond (eqb field.number 3) (with_object objects (object_of kinds.Way field bytes)) (from_relation objects field bytes)
 
 abbrev from_dense : List Object → WireField → List ℕ → Result (List Object) MessageFault
-from_dense objects field bytes = cond (eqb field.number 2) (with_dense objects field.at (object_of kinds.Dense field bytes)) (from_way objects field bytes)
+from_dense objects field bytes = cond (eqb field.number 2) (with_dense objects field.at (object_of kinds.DenseNodes field bytes)) (from_way objects field bytes)
 
 relation_weighs : (objects : List Object) (field : WireField) (bytes : List ℕ) (t : List Object) → from_relation objects field bytes ≡ Ok t → object_bytes t ≤ object_bytes objects + length bytes
 relation_weighs objects field bytes t e =
@@ -176,8 +176,8 @@ way_weighs objects field bytes t e =
 
 from_dense_weighs : (objects : List Object) (field : WireField) (bytes : List ℕ) (t : List Object) → from_dense objects field bytes ≡ Ok t → object_bytes t ≤ object_bytes objects + length bytes
 from_dense_weighs objects field bytes t e =
-    choice_weighs object_bytes (eqb field.number 2) objects t (length bytes) (with_dense objects field.at (object_of kinds.Dense field bytes)) (from_way objects field bytes)
-    (λ u f. dense_weighs (has_dense objects) objects field.at (object_of kinds.Dense field bytes) u f) (λ u f. way_weighs objects field bytes u f) e
+    choice_weighs object_bytes (eqb field.number 2) objects t (length bytes) (with_dense objects field.at (object_of kinds.DenseNodes field bytes)) (from_way objects field bytes)
+    (λ u f. dense_weighs (has_dense objects) objects field.at (object_of kinds.DenseNodes field bytes) u f) (λ u f. way_weighs objects field bytes u f) e
 
 member_weighs : (objects : List Object) (field : WireField) (bytes : List ℕ) (t : List Object) → with_member objects field bytes ≡ Ok t → object_bytes t ≤ object_bytes objects + length bytes
 member_weighs objects field bytes t e =

@@ -1,4 +1,4 @@
--- Which faults stand in bytes, and at which places, in the words of the format. Many may stand there; a reader is told
+-- Which faults stand in bytes, and at which offsets, in the words of the format. Many may stand there; a reader is told
 -- the first one.
 use Rattle.std.specs.Prelude.{◌≡◌, ℕ, ◌≤◌, Bool, true, ◌==◌, ◌&&◌, ◌⊎◌, List, [], ◌∷◌, ◌++◌, Option, Some, None}
 use Rattle.wire_read.specs.declared.fault.WireFault.{WireFault}
@@ -9,22 +9,23 @@ use Rattle.osm_messages.specs.declared.fault.MessageFault.{MessageFault}
 use Rattle.osm_messages.specs.declared.fault.MessageFault.TheVariants as faults
 use Rattle.osm_messages.specs.declared.kind.ObjectKind.{ObjectKind}
 use Rattle.std.specs.List.{list_any}
+use Rattle.osm_messages.specs.declared.fields.TheConstants.{BLOCK_STRINGTABLE, BLOCK_PRIMITIVEGROUP, GROUP_DENSE}
 use Rattle.osm_messages.specs.Groups.{Object}
-use Rattle.osm_messages.specs.Means.{Part, held_part, parts, holds_many, is_dense_message, held_object, objects_in}
+use Rattle.osm_messages.specs.Means.{Part, held_part, parts, holds_many, is_dense_nodes, held_object, objects_of_fields}
 
--- ---- places
+-- ---- offsets
 
-abbrev pub wire_place : WireFault → ℕ
-wire_place (wires.Short at) = at
-wire_place (wires.LongVarint at) = at
-wire_place (wires.BadWire at kind) = at
-wire_place (wires.BadNumber at) = at
+abbrev pub wire_offset : WireFault → ℕ
+wire_offset (wires.Short at) = at
+wire_offset (wires.LongVarint at) = at
+wire_offset (wires.BadWire at kind) = at
+wire_offset (wires.BadNumber at) = at
 
--- the place of a fault; want of memory stands in no bytes
-abbrev pub place_of : MessageFault → ℕ
-place_of (faults.Wire fault) = wire_place fault
-place_of (faults.Repeated at number) = at
-place_of faults.OutOfMemory = 0
+-- the offset of a fault; out of memory stands in no bytes
+abbrev pub fault_offset : MessageFault → ℕ
+fault_offset (faults.Wire fault) = wire_offset fault
+fault_offset (faults.Repeated at number) = at
+fault_offset faults.OutOfMemory = 0
 
 -- ---- in any message
 
@@ -56,7 +57,7 @@ pub record StandsIn (inside : InField) (at : ℕ) (bytes : List ℕ) (fault : Me
 -- no fault that stands there comes before it
 pub record IsFirst (inside : InField) (at : ℕ) (bytes : List ℕ) (fault : MessageFault) : Type 0 where
   pub stands : StandsIn inside at bytes fault
-  pub first : (other : MessageFault) → StandsIn inside at bytes other → place_of fault ≤ place_of other
+  pub first : (other : MessageFault) → StandsIn inside at bytes other → fault_offset fault ≤ fault_offset other
 
 -- ---- in a header and in a string table: none inside of a field
 
@@ -81,26 +82,26 @@ InList listed at (Fixed32 n) fault = ⊥
 abbrev pub InNumbers : ObjectKind → InField
 InNumbers kind before field fault = InList (holds_many kind field.number) field.body_at field.content fault
 
--- ---- in a group: a second dense message, or a fault of an object
+-- ---- in a PrimitiveGroup: a second DenseNodes, or a fault of an object
 
 abbrev pub InObject : Bool → ℕ → Option Object → MessageFault → Type 0
 InObject dense_before at None fault = ⊥
 InObject dense_before at (Some object) fault =
-    (((is_dense_message object.kind && dense_before) ≡ true) × (fault ≡ faults.Repeated at 2))
+    (((is_dense_nodes object.kind && dense_before) ≡ true) × (fault ≡ faults.Repeated at GROUP_DENSE))
     ⊎ StandsIn (InNumbers object.kind) object.at object.bytes fault
 
--- one of the objects is a dense message
-abbrev pub has_dense_message : List Object → Bool
-has_dense_message objects = list_any (λ (object : Object). is_dense_message object.kind) objects
+-- one of the objects is a DenseNodes
+abbrev pub has_dense_nodes : List Object → Bool
+has_dense_nodes objects = list_any (λ (object : Object). is_dense_nodes object.kind) objects
 
 abbrev pub InMember : InField
-InMember before field fault = InObject (has_dense_message (objects_in before)) field.at (held_object field.number field.body_at field.content) fault
+InMember before field fault = InObject (has_dense_nodes (objects_of_fields before)) field.at (held_object field.number field.body_at field.content) fault
 
--- ---- in a block: a second string table, or a fault of a table or a group
+-- ---- in a PrimitiveBlock: a second string table, or a fault of a table or a PrimitiveGroup
 
 abbrev pub InTable : List Part → Option Part → MessageFault → Type 0
 InTable before None fault = ⊥
-InTable before (Some part) fault = ((before ≡ [] → ⊥) × (fault ≡ faults.Repeated part.at 1)) ⊎ StandsIn InNone part.body_at part.bytes fault
+InTable before (Some part) fault = ((before ≡ [] → ⊥) × (fault ≡ faults.Repeated part.at BLOCK_STRINGTABLE)) ⊎ StandsIn InNone part.body_at part.bytes fault
 
 abbrev pub InGroup : Option Part → MessageFault → Type 0
 InGroup None fault = ⊥
@@ -108,5 +109,5 @@ InGroup (Some part) fault = StandsIn InMember part.body_at part.bytes fault
 
 abbrev pub InBlock : InField
 InBlock before field fault =
-    InTable (parts 1 before) (held_part (field.number == 1) field.at field.body_at field.content) fault
-    ⊎ InGroup (held_part (field.number == 2) field.at field.body_at field.content) fault
+    InTable (parts BLOCK_STRINGTABLE before) (held_part (field.number == BLOCK_STRINGTABLE) field.at field.body_at field.content) fault
+    ⊎ InGroup (held_part (field.number == BLOCK_PRIMITIVEGROUP) field.at field.body_at field.content) fault

@@ -13,3 +13,4 @@ pub mod Means
 pub mod Faults
 pub mod FaultLines
 pub mod Sizes
+pub mod RawNumbers

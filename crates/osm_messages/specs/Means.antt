@@ -8,12 +8,13 @@ use Rattle.wire_read.specs.Numbers.{SpellsNumbers}
 use Rattle.wire_read.specs.Fields.{Content, Varint, Fixed64, Bytes, Fixed32, WireField, SpellsFields}
 use Rattle.osm_messages.specs.declared.kind.ObjectKind.{ObjectKind}
 use Rattle.osm_messages.specs.declared.kind.ObjectKind.TheVariants as kinds
+use Rattle.osm_messages.specs.declared.fields.TheConstants.{HEADER_REQUIRED_FEATURES, BLOCK_STRINGTABLE, BLOCK_PRIMITIVEGROUP, BLOCK_GRANULARITY, BLOCK_LAT_OFFSET, BLOCK_LON_OFFSET, STRINGTABLE_S, GROUP_NODES, GROUP_DENSE, GROUP_WAYS, GROUP_RELATIONS, NODE_ID, NODE_KEYS, NODE_VALS, NODE_LAT, NODE_LON, DENSE_ID, DENSE_LAT, DENSE_LON, DENSE_KEYS_VALS, WAY_ID, WAY_KEYS, WAY_VALS, WAY_REFS, RELATION_ID, RELATION_KEYS, RELATION_VALS, RELATION_ROLES_SID, RELATION_MEMIDS, RELATION_TYPES}
 use Rattle.osm_messages.specs.Groups.{Object}
 use Rattle.osm_messages.specs.Blocks.{Block}
 
 -- ---- what fields hold
 
--- the bytes that a field holds, with the places of the field and of the first of them
+-- the bytes that a field holds, with the offsets of the field and of the first of them
 pub record Part : Type 0 where
   pub at : ℕ
   pub body_at : ℕ
@@ -48,36 +49,35 @@ Together {B = B} gives (x ∷ xs) whole = (given others : List B) × gives x giv
 
 -- ---- a header
 
--- its required features are its fields 4
-pub record IsHeader (at : ℕ) (bytes : List ℕ) (features : List (ℕ × List ℕ)) : Type 0 where
+-- its required features, in order
+pub record IsHeaderBlock (at : ℕ) (bytes : List ℕ) (features : List (ℕ × List ℕ)) : Type 0 where
   pub fields : List WireField
   pub spells : SpellsFields bytes at fields
-  pub features_are : features ≡ map (λ (part : Part). (part.at, part.bytes)) (parts 4 fields)
+  pub features_are : features ≡ map (λ (part : Part). (part.at, part.bytes)) (parts HEADER_REQUIRED_FEATURES fields)
 
 -- ---- a string table
 
--- its texts are its fields 1
-pub record IsTable (at : ℕ) (bytes : List ℕ) (texts : List (List ℕ)) : Type 0 where
+-- its texts are its fields `s`
+pub record IsStringTable (at : ℕ) (bytes : List ℕ) (texts : List (List ℕ)) : Type 0 where
   pub fields : List WireField
   pub spells : SpellsFields bytes at fields
-  pub texts_are : texts ≡ map (λ (part : Part). part.bytes) (parts 1 fields)
+  pub texts_are : texts ≡ map (λ (part : Part). part.bytes) (parts STRINGTABLE_S fields)
 
 -- ---- the numbers of an object
 
--- the fields that hold one number: the id, latitude and longitude of a node, the id of a way and of a relation
+-- the fields that hold one number
 abbrev pub holds_one : ObjectKind → ℕ → Bool
-holds_one kinds.Node number = number == 1 || number == 8 || number == 9
-holds_one kinds.Dense number = false
-holds_one kinds.Way number = number == 1
-holds_one kinds.Relation number = number == 1
+holds_one kinds.Node number = number == NODE_ID || number == NODE_LAT || number == NODE_LON
+holds_one kinds.DenseNodes number = false
+holds_one kinds.Way number = number == WAY_ID
+holds_one kinds.Relation number = number == RELATION_ID
 
--- the fields that hold a list of numbers: keys and values of a node; ids, latitudes, longitudes, and keys and values of
--- a dense message; keys, values and refs of a way; keys, values, and roles, ids and types of the members of a relation
+-- the fields that hold a list of numbers
 abbrev pub holds_many : ObjectKind → ℕ → Bool
-holds_many kinds.Node number = number == 2 || number == 3
-holds_many kinds.Dense number = number == 1 || number == 8 || number == 9 || number == 10
-holds_many kinds.Way number = number == 2 || number == 3 || number == 8
-holds_many kinds.Relation number = number == 2 || number == 3 || number == 8 || number == 9 || number == 10
+holds_many kinds.Node number = number == NODE_KEYS || number == NODE_VALS
+holds_many kinds.DenseNodes number = number == DENSE_ID || number == DENSE_LAT || number == DENSE_LON || number == DENSE_KEYS_VALS
+holds_many kinds.Way number = number == WAY_KEYS || number == WAY_VALS || number == WAY_REFS
+holds_many kinds.Relation number = number == RELATION_KEYS || number == RELATION_VALS || number == RELATION_ROLES_SID || number == RELATION_MEMIDS || number == RELATION_TYPES
 
 -- bytes of a list are packed numbers; other bytes are no numbers
 abbrev pub HoldsPacked : Bool → List ℕ → List ℕ → Type 0
@@ -101,15 +101,15 @@ pub record IsObject (kind : ObjectKind) (at : ℕ) (bytes : List ℕ) (numbers :
   pub spells : SpellsFields bytes at fields
   pub numbers_are : Together (GivesNumbers kind) fields numbers
 
--- ---- a group
+-- ---- a PrimitiveGroup
 
--- nodes 1, dense messages 2, ways 3, relations 4
-abbrev pub kind_of : ℕ → Option ObjectKind
-kind_of number =
-    if number == 1 then Some kinds.Node
-    else (if number == 2 then Some kinds.Dense
-    else (if number == 3 then Some kinds.Way
-    else (if number == 4 then Some kinds.Relation
+-- the kind of object that a field of this number holds
+abbrev pub kind_of_field : ℕ → Option ObjectKind
+kind_of_field number =
+    if number == GROUP_NODES then Some kinds.Node
+    else (if number == GROUP_DENSE then Some kinds.DenseNodes
+    else (if number == GROUP_WAYS then Some kinds.Way
+    else (if number == GROUP_RELATIONS then Some kinds.Relation
     else None)))
 
 abbrev pub object_by : ℕ → List ℕ → Option ObjectKind → Option Object
@@ -119,57 +119,57 @@ object_by at bytes (Some kind) = Some (record { kind = kind; at = at; bytes = by
 abbrev pub held_object : ℕ → ℕ → Content → Option Object
 held_object number at (Varint n) = None
 held_object number at (Fixed64 n) = None
-held_object number at (Bytes bytes) = object_by at bytes (kind_of number)
+held_object number at (Bytes bytes) = object_by at bytes (kind_of_field number)
 held_object number at (Fixed32 n) = None
 
 -- the objects of these fields, in order
-abbrev pub objects_in : List WireField → List Object
-objects_in fields = filter_map (λ (field : WireField). held_object field.number field.body_at field.content) fields
+abbrev pub objects_of_fields : List WireField → List Object
+objects_of_fields fields = filter_map (λ (field : WireField). held_object field.number field.body_at field.content) fields
 
-abbrev pub is_dense_message : ObjectKind → Bool
-is_dense_message kinds.Node = false
-is_dense_message kinds.Dense = true
-is_dense_message kinds.Way = false
-is_dense_message kinds.Relation = false
+abbrev pub is_dense_nodes : ObjectKind → Bool
+is_dense_nodes kinds.Node = false
+is_dense_nodes kinds.DenseNodes = true
+is_dense_nodes kinds.Way = false
+is_dense_nodes kinds.Relation = false
 
 abbrev pub dense_among : List Object → List Object
-dense_among objects = filter (λ (object : Object). is_dense_message object.kind) objects
+dense_among objects = filter (λ (object : Object). is_dense_nodes object.kind) objects
 
 -- an object has numbers
 abbrev pub SpellsObject : Object → Type 0
 SpellsObject object = (numbers : List (ℕ × ℕ)) × IsObject object.kind object.at object.bytes numbers
 
--- a group's objects are its fields 1 to 4, at most one of them is dense, and each has numbers
-pub record IsGroup (at : ℕ) (bytes : List ℕ) (objects : List Object) : Type 0 where
+-- a PrimitiveGroup's objects are its fields of the four kinds, at most one of them is a DenseNodes, and each has numbers
+pub record IsPrimitiveGroup (at : ℕ) (bytes : List ℕ) (objects : List Object) : Type 0 where
   pub fields : List WireField
   pub spells : SpellsFields bytes at fields
-  pub objects_are : objects ≡ objects_in fields
+  pub objects_are : objects ≡ objects_of_fields fields
   pub one_dense : length (dense_among objects) ≤ 1
   pub each_spelled : All SpellsObject objects
 
--- ---- a block
+-- ---- a PrimitiveBlock
 
 -- no table, or one table with these texts
 abbrev pub HasTable : List Part → Option (List (List ℕ)) → Type 0
 HasTable [] texts = texts ≡ None
-HasTable (part ∷ []) texts = (found : List (List ℕ)) × IsTable part.body_at part.bytes found × (texts ≡ Some found)
+HasTable (part ∷ []) texts = (found : List (List ℕ)) × IsStringTable part.body_at part.bytes found × (texts ≡ Some found)
 HasTable (part ∷ other ∷ others) texts = ⊥
 
--- the bytes of a field are a group of these objects
+-- the bytes of a field are a PrimitiveGroup of these objects
 abbrev pub GivesGroup : Part → List Object → Type 0
-GivesGroup part objects = IsGroup part.body_at part.bytes objects
+GivesGroup part objects = IsPrimitiveGroup part.body_at part.bytes objects
 
 -- the last of the numbers, where there is one; each is a signed number of 64 bits
 abbrev pub last_signed : ℤ → List ℕ → ℤ
 last_signed otherwise [] = otherwise
 last_signed otherwise (n ∷ numbers) = last_signed (cast_signed w64 n) numbers
 
--- string table 1, groups 2, granularity 17, offsets 19 and 20
-pub record IsBlock (at : ℕ) (bytes : List ℕ) (block : Block) : Type 0 where
+-- a PrimitiveBlock: its string table, its PrimitiveGroups, its granularity and its offsets
+pub record IsPrimitiveBlock (at : ℕ) (bytes : List ℕ) (block : Block) : Type 0 where
   pub fields : List WireField
   pub spells : SpellsFields bytes at fields
-  pub table : HasTable (parts 1 fields) block.texts
-  pub groups : Together GivesGroup (parts 2 fields) block.objects
-  pub granularity : block.granularity ≡ last_signed (pos 100) (varints 17 fields)
-  pub lat_offset : block.lat_offset ≡ last_signed (pos 0) (varints 19 fields)
-  pub lon_offset : block.lon_offset ≡ last_signed (pos 0) (varints 20 fields)
+  pub table : HasTable (parts BLOCK_STRINGTABLE fields) block.texts
+  pub groups : Together GivesGroup (parts BLOCK_PRIMITIVEGROUP fields) block.objects
+  pub granularity : block.granularity ≡ last_signed (pos 100) (varints BLOCK_GRANULARITY fields)
+  pub lat_offset : block.lat_offset ≡ last_signed (pos 0) (varints BLOCK_LAT_OFFSET fields)
+  pub lon_offset : block.lon_offset ≡ last_signed (pos 0) (varints BLOCK_LON_OFFSET fields)

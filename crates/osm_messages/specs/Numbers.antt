@@ -6,6 +6,7 @@ use Rattle.wire_read.specs.Fields.{Content, Varint, Fixed64, Bytes, Fixed32, Wir
 use Rattle.osm_messages.specs.declared.fault.MessageFault.{MessageFault}
 use Rattle.osm_messages.specs.declared.kind.ObjectKind.{ObjectKind}
 use Rattle.osm_messages.specs.declared.kind.ObjectKind.TheVariants as kinds
+use Rattle.osm_messages.specs.declared.fields.TheConstants.{NODE_ID, NODE_KEYS, NODE_VALS, NODE_LAT, NODE_LON, DENSE_ID, DENSE_LAT, DENSE_LON, DENSE_KEYS_VALS, WAY_ID, WAY_KEYS, WAY_VALS, WAY_REFS, RELATION_ID, RELATION_KEYS, RELATION_VALS, RELATION_ROLES_SID, RELATION_MEMIDS, RELATION_TYPES}
 use Rattle.osm_messages.specs.Walks.{walk, message}
 
 -- ---- which fields are read
@@ -15,30 +16,29 @@ pub record Shape : Type 0 where
   pub singles : List ℕ
   pub lists : List ℕ
 
--- id, latitude, longitude; keys, values
 abbrev pub node_shape : Shape
-node_shape = record { singles = 1 ∷ 8 ∷ 9 ∷ []; lists = 2 ∷ 3 ∷ [] }
+node_shape = record { singles = NODE_ID ∷ NODE_LAT ∷ NODE_LON ∷ []; lists = NODE_KEYS ∷ NODE_VALS ∷ [] }
 
--- ids, latitudes, longitudes, keys and values
 abbrev pub dense_shape : Shape
-dense_shape = record { singles = []; lists = 1 ∷ 8 ∷ 9 ∷ 10 ∷ [] }
+dense_shape = record { singles = []; lists = DENSE_ID ∷ DENSE_LAT ∷ DENSE_LON ∷ DENSE_KEYS_VALS ∷ [] }
 
--- id; keys, values, refs
 abbrev pub way_shape : Shape
-way_shape = record { singles = 1 ∷ []; lists = 2 ∷ 3 ∷ 8 ∷ [] }
+way_shape = record { singles = WAY_ID ∷ []; lists = WAY_KEYS ∷ WAY_VALS ∷ WAY_REFS ∷ [] }
 
--- id; keys, values, roles, ids and types of the members
 abbrev pub relation_shape : Shape
-relation_shape = record { singles = 1 ∷ []; lists = 2 ∷ 3 ∷ 8 ∷ 9 ∷ 10 ∷ [] }
+relation_shape = record {
+  singles = RELATION_ID ∷ [];
+  lists = RELATION_KEYS ∷ RELATION_VALS ∷ RELATION_ROLES_SID ∷ RELATION_MEMIDS ∷ RELATION_TYPES ∷ [];
+}
 
 abbrev pub shape_of : ObjectKind → Shape
 shape_of kinds.Node = node_shape
-shape_of kinds.Dense = dense_shape
+shape_of kinds.DenseNodes = dense_shape
 shape_of kinds.Way = way_shape
 shape_of kinds.Relation = relation_shape
 
-abbrev pub is_among : ℕ → List ℕ → Bool
-is_among number numbers = list_any (λ n. number == n) numbers
+abbrev pub is_field_among : ℕ → List ℕ → Bool
+is_field_among number numbers = list_any (λ n. number == n) numbers
 
 -- ---- the numbers, in the order of the bytes, each with the number of its field
 
@@ -53,9 +53,9 @@ with_packed field numbers at bytes = walk (with_number field) numbers (packed_of
 -- A varint is one number, alone or of a list. Bytes are packed numbers of a list. All else is skipped.
 abbrev pub with_held : Shape → ℕ → ℕ → Content → List (ℕ × ℕ) → Result (List (ℕ × ℕ)) MessageFault
 with_held shape field at (Varint n) numbers =
-    if is_among field shape.singles || is_among field shape.lists then with_number field numbers n else Ok numbers
+    if is_field_among field shape.singles || is_field_among field shape.lists then with_number field numbers n else Ok numbers
 with_held shape field at (Fixed64 n) numbers = Ok numbers
-with_held shape field at (Bytes bytes) numbers = if is_among field shape.lists then with_packed field numbers at bytes else Ok numbers
+with_held shape field at (Bytes bytes) numbers = if is_field_among field shape.lists then with_packed field numbers at bytes else Ok numbers
 with_held shape field at (Fixed32 n) numbers = Ok numbers
 
 -- the numbers of one field more

@@ -3,14 +3,14 @@ use Rattle.std.specs.Prelude.{ℕ, List, map}
 use Rattle.std.specs.Borrow.{Bor}
 use Rattle.std.specs.Option.{option_map}
 use Rattle.osm_messages.specs.declared.object.RawObject.{RawObject}
-use Rattle.osm_messages.specs.declared.block.RawBlock.{RawBlock}
+use Rattle.osm_messages.specs.declared.block.RawPrimitiveBlock.{RawPrimitiveBlock}
 use Rattle.osm_messages.specs.Groups.{Object}
 use Rattle.osm_messages.specs.Blocks.{Block}
 
 abbrev pub seen_object : RawObject → Object
 seen_object object = record { kind = object.kind; at = object.at; bytes = object.bytes.now }
 
-abbrev pub seen_block : RawBlock → Block
+abbrev pub seen_block : RawPrimitiveBlock → Block
 seen_block block = record {
   texts = option_map (λ texts. map (λ text. text.now) texts.items) block.texts;
   objects = map seen_object block.objects.items;

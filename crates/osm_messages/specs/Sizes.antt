@@ -10,4 +10,4 @@ object_bytes objects = sum_by (λ (object : Object). length object.bytes) object
 -- the numbers of all lists
 abbrev pub numbers_held : Lists → ℕ
 numbers_held lists =
-    length lists.first + length lists.second + length lists.third + length lists.eighth + length lists.ninth + length lists.tenth
+    length lists.field_1 + length lists.field_2 + length lists.field_3 + length lists.field_8 + length lists.field_9 + length lists.field_10

@@ -23,15 +23,15 @@ steps step s (x ∷ xs) = do
   steps step t xs
 
 -- the end, or the fault of the bytes behind the last item
-abbrev pub ended : {S : Type 0} → Option WireFault → S → Result S MessageFault
-ended None s = Ok s
-ended (Some fault) s = Err (faults.Wire fault)
+abbrev pub with_end : {S : Type 0} → Option WireFault → S → Result S MessageFault
+with_end None s = Ok s
+with_end (Some fault) s = Err (faults.Wire fault)
 
 -- the items one after the other; the fault behind the last one counts where no step had one
 abbrev pub walk : {S A : Type 0} → (S → A → Result S MessageFault) → S → Listed A → Result S MessageFault
 walk step s list = do
   t ← steps step s list.items
-  ended list.fault t
+  with_end list.fault t
 
 -- the fields of a message, one after the other; the first byte stands at this place
 abbrev pub message : {S : Type 0} → (S → WireField → Result S MessageFault) → S → ℕ → List ℕ → Result S MessageFault

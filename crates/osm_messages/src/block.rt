@@ -1,4 +1,4 @@
-//! Data blocks.
+//! PrimitiveBlocks.
 ghost use Rattle.std.specs.Prelude.{◌≡◌, ◌+◌, ◌<◌, ◌≤◌, ◌^◌, length, map, All, IfOk};
 ghost use Rattle.wire_read.specs.Fields.{seen, inner_length, content_of};
 ghost use Rattle.osm_messages.specs.Answers.{Answers, Becomes};
@@ -8,28 +8,20 @@ ghost use Rattle.osm_messages.specs.Seen.{seen_object, seen_block};
 ghost use Rattle.osm_messages.specs.Sizes.{object_bytes};
 
 use crate::fault::MessageFault;
-use crate::group::read_group;
+use crate::fields::{
+    BLOCK_GRANULARITY, BLOCK_LAT_OFFSET, BLOCK_LON_OFFSET, BLOCK_PRIMITIVEGROUP, BLOCK_STRINGTABLE,
+};
+use crate::group::read_primitive_group;
 use crate::object::RawObject;
 use crate::texts::read_texts;
 use std::alloc::Global;
 use wire_read::{Body, Field, Fields};
 
-// The numbers of a block's fields.
-const STRING_TABLE: u32 = 1;
-
-const GROUP: u32 = 2;
-
-const GRANULARITY: u32 = 17;
-
-const LAT_OFFSET: u32 = 19;
-
-const LON_OFFSET: u32 = 20;
-
-/// A data block, before anything is known of what its objects mean. A coordinate counts `granularity` times, and the
+/// A PrimitiveBlock, before anything is known of what its objects mean. A coordinate counts `granularity` times, and the
 /// offset is added to it; both are in units of 1e-9 degree.
 #[derive(Drop)]
-pub struct RawBlock<'a> {
-    /// The texts of the string table, where the block has one.
+pub struct RawPrimitiveBlock<'a> {
+    /// The strings of the string table, where the block has one.
     pub texts: Option<Vec<&'a [u8]>>,
     /// The objects of all groups, in order.
     pub objects: Vec<RawObject<'a>>,
@@ -38,24 +30,24 @@ pub struct RawBlock<'a> {
     pub lon_offset: i64,
 }
 
-impl<'a> RawBlock<'a> {
+impl<'a> RawPrimitiveBlock<'a> {
     /// Sets the scalar that a field of this number holds.
     fn set_scalar(&mut self, number: u32, n: u64)
         ensures { seen_block self.new ≡ with_scalar (seen_block self.old) number n }
     {
         match number {
-            GRANULARITY => self.granularity = n.cast_signed(),
-            LAT_OFFSET => self.lat_offset = n.cast_signed(),
-            LON_OFFSET => self.lon_offset = n.cast_signed(),
+            BLOCK_GRANULARITY => self.granularity = n.cast_signed(),
+            BLOCK_LAT_OFFSET => self.lat_offset = n.cast_signed(),
+            BLOCK_LON_OFFSET => self.lon_offset = n.cast_signed(),
             _ => {}
         }
     }
 }
 
-/// Reads the string table of a field at `at`. Its first byte stands at `body_at`.
+/// Reads the string table of the field at `at`. Its first byte stands at `body_at`.
 fn add_table<'a>(
     alloc: Global,
-    block: &mut RawBlock<'a>,
+    block: &mut RawPrimitiveBlock<'a>,
     at: u64,
     body_at: u64,
     bytes: &'a [u8],
@@ -66,7 +58,7 @@ fn add_table<'a>(
     if block.texts.is_some() {
         return Err(MessageFault::Repeated {
             at,
-            number: STRING_TABLE,
+            number: BLOCK_STRINGTABLE,
         });
     }
     let texts = read_texts(alloc, bytes, body_at)?;
@@ -74,10 +66,10 @@ fn add_table<'a>(
     Ok(())
 }
 
-/// Reads what a field of a block says.
+/// Reads one field of a PrimitiveBlock.
 fn add_field<'a>(
     alloc: Global,
-    block: &mut RawBlock<'a>,
+    block: &mut RawPrimitiveBlock<'a>,
     field: Field<'a>,
 ) -> Result<(), MessageFault>
     requires { field.body_at + inner_length (content_of field.body) < 2 ^ 64 }
@@ -85,8 +77,8 @@ fn add_field<'a>(
 {
     match field.body {
         Body::Bytes(bytes) => match field.number {
-            STRING_TABLE => add_table(alloc, block, field.at, field.body_at, bytes),
-            GROUP => read_group(&mut block.objects, bytes, field.body_at),
+            BLOCK_STRINGTABLE => add_table(alloc, block, field.at, field.body_at, bytes),
+            BLOCK_PRIMITIVEGROUP => read_primitive_group(&mut block.objects, bytes, field.body_at),
             _ => Ok(()),
         },
         Body::Varint(n) => {
@@ -97,18 +89,22 @@ fn add_field<'a>(
     }
 }
 
-/// Reads a data block (`PrimitiveBlock` of osmformat.proto), the first byte of which stands at `at`. Its objects'
-/// numbers are looked through, so that reading them has no fault.
+/// Reads a PrimitiveBlock (osmformat.proto), the first byte of which stands at `at`. Its objects' numbers are looked
+/// through, so that reading them has no fault.
 ///
-/// The fault is the first in the order of the bytes: `Wire` in the block, its string table, a group, an object or
-/// packed numbers, or `Repeated` for a second string table or a group's second dense message.
-pub fn read_block<'a>(alloc: Global, bytes: &'a [u8], at: u64) -> Result<RawBlock<'a>, MessageFault>
+/// The fault is the first in the order of the bytes: `Wire` in the block, its string table, a PrimitiveGroup, an object
+/// or packed numbers, or `Repeated` for a second string table or a PrimitiveGroup's second DenseNodes.
+pub fn read_primitive_block<'a>(
+    alloc: Global,
+    bytes: &'a [u8],
+    at: u64,
+) -> Result<RawPrimitiveBlock<'a>, MessageFault>
     requires { at + length bytes.now < 2 ^ 64 }
     ensures block { Answers seen_block result (block_in at bytes.now) }
     ensures spelled { IfOk result (λ raw. All HasNumbers (map seen_object raw.objects.items)) }
     ensures few { IfOk result (λ raw. object_bytes (map seen_object raw.objects.items) ≤ length bytes.now) }
 {
-    let mut block = RawBlock {
+    let mut block = RawPrimitiveBlock {
         texts: None,
         objects: Vec::new(alloc),
         granularity: 100,

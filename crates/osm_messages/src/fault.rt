@@ -12,7 +12,7 @@ use wire_read::WireFault;
 pub enum MessageFault {
     /// A message or a list of packed numbers isn't in the wire format.
     Wire { fault: WireFault },
-    /// A field that may come once comes again; `at` is the place of the first byte of the second one.
+    /// A field that may come once comes again; `at` is the offset of the first byte of the second one.
     Repeated { at: u64, number: u32 },
     /// There was no memory for what was read.
     OutOfMemory,

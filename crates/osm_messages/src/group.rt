@@ -1,4 +1,4 @@
-//! Groups of objects.
+//! PrimitiveGroups.
 ghost use Rattle.std.specs.Prelude.{◌+◌, ◌<◌, ◌^◌, length, map};
 ghost use Rattle.wire_read.specs.Fields.{seen, inner_length, content_of};
 ghost use Rattle.osm_messages.specs.Answers.{Becomes};
@@ -7,21 +7,14 @@ ghost use Rattle.osm_messages.specs.Passes.{behind, pass_step};
 ghost use Rattle.osm_messages.specs.Seen.{seen_object};
 
 use crate::fault::MessageFault;
+use crate::fields::{GROUP_DENSE, GROUP_NODES, GROUP_RELATIONS, GROUP_WAYS};
 use crate::kind::ObjectKind;
 use crate::numbers::check_numbers;
 use crate::object::RawObject;
 use wire_read::{Body, Field, Fields};
 
-// The numbers of a group's fields.
-const NODE: u32 = 1;
-
-const DENSE: u32 = 2;
-
-const WAY: u32 = 3;
-
-const RELATION: u32 = 4;
-
-/// Puts an object behind the others.
+/// Appends an object. The numbers of its fields are looked through first, nothing of them is kept: each fault of the
+/// wire format in a block comes before the first fault of what its objects mean.
 fn add_object<'a>(
     objects: &mut Vec<RawObject<'a>>,
     object: RawObject<'a>,
@@ -33,8 +26,7 @@ fn add_object<'a>(
     Ok(())
 }
 
-/// Puts the object that a field of a group holds behind the others. `has_dense` says whether the group has a dense
-/// message.
+/// Appends the object that a field of a PrimitiveGroup holds. `has_dense` says whether the group has a DenseNodes.
 fn add_field<'a>(
     objects: &mut Vec<RawObject<'a>>,
     has_dense: &mut bool,
@@ -48,7 +40,7 @@ fn add_field<'a>(
     };
     let at = field.body_at;
     match field.number {
-        NODE => add_object(
+        GROUP_NODES => add_object(
             objects,
             RawObject {
                 kind: ObjectKind::Node,
@@ -56,24 +48,24 @@ fn add_field<'a>(
                 bytes,
             },
         ),
-        DENSE => {
+        GROUP_DENSE => {
             if *has_dense {
                 return Err(MessageFault::Repeated {
                     at: field.at,
-                    number: DENSE,
+                    number: GROUP_DENSE,
                 });
             }
             *has_dense = true;
             add_object(
                 objects,
                 RawObject {
-                    kind: ObjectKind::Dense,
+                    kind: ObjectKind::DenseNodes,
                     at,
                     bytes,
                 },
             )
         }
-        WAY => add_object(
+        GROUP_WAYS => add_object(
             objects,
             RawObject {
                 kind: ObjectKind::Way,
@@ -81,7 +73,7 @@ fn add_field<'a>(
                 bytes,
             },
         ),
-        RELATION => add_object(
+        GROUP_RELATIONS => add_object(
             objects,
             RawObject {
                 kind: ObjectKind::Relation,
@@ -93,8 +85,8 @@ fn add_field<'a>(
     }
 }
 
-/// Puts the objects of a group behind the others. The group's first byte stands at `at`.
-pub fn read_group<'a>(
+/// Appends the objects of a PrimitiveGroup, whose first byte stands at `at`.
+pub fn read_primitive_group<'a>(
     objects: &mut Vec<RawObject<'a>>,
     bytes: &'a [u8],
     at: u64,

@@ -1,4 +1,4 @@
-//! Header blocks.
+//! HeaderBlocks.
 ghost use Rattle.std.specs.Prelude.{◌+◌, ◌<◌, ◌^◌, length};
 ghost use Rattle.wire_read.specs.Fields.{seen};
 ghost use Rattle.osm_messages.specs.Answers.{Answers, Becomes};
@@ -6,13 +6,11 @@ ghost use Rattle.osm_messages.specs.Headers.{feature_step, features_in};
 ghost use Rattle.osm_messages.specs.Seen.{seen_features};
 
 use crate::fault::MessageFault;
+use crate::fields::HEADER_REQUIRED_FEATURES;
 use std::alloc::Global;
 use wire_read::{Body, Field, Fields};
 
-/// The number of a required feature in a header.
-const REQUIRED_FEATURE: u32 = 4;
-
-/// Puts the required feature that a field of a header holds behind the others.
+/// Appends the required feature that a field of a HeaderBlock holds.
 fn add_feature<'a>(
     features: &mut Vec<(u64, &'a [u8])>,
     field: Field<'a>,
@@ -20,7 +18,7 @@ fn add_feature<'a>(
     ensures { Becomes result (seen_features features.new.items) (feature_step (seen_features features.old.items) (seen field.entry)) }
 {
     match field.body {
-        Body::Bytes(feature) if field.number == REQUIRED_FEATURE => {
+        Body::Bytes(feature) if field.number == HEADER_REQUIRED_FEATURES => {
             features.push((field.at, feature))?;
         }
         _ => {}
@@ -28,8 +26,8 @@ fn add_feature<'a>(
     Ok(())
 }
 
-/// The required features of a header block (`HeaderBlock` of osmformat.proto), in order, each with the place of its
-/// field's first byte. The block's first byte stands at `at`. The fault is the first one of the wire format.
+/// The required features of a HeaderBlock (osmformat.proto), in order, each with the offset of its field's first byte.
+/// The block's first byte stands at `at`. The fault is the first one of the wire format.
 pub fn read_features<'a>(
     alloc: Global,
     bytes: &'a [u8],

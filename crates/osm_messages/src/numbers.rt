@@ -3,7 +3,7 @@ ghost use Rattle.std.specs.Prelude.{◌+◌, ◌<◌, ◌^◌, length};
 ghost use Rattle.wire_read.specs.Fields.{seen, inner_length, content_of};
 ghost use Rattle.osm_messages.specs.Answers.{Becomes};
 ghost use Rattle.osm_messages.specs.Numbers.{shape_of, numbers_in};
-ghost use Rattle.osm_messages.specs.Lists.{seen_lists, listed, list_step};
+ghost use Rattle.osm_messages.specs.Lists.{seen_lists, listed_numbers, list_step};
 ghost use Rattle.osm_messages.specs.Passes.{spelled, check_step};
 
 use crate::fault::MessageFault;
@@ -13,7 +13,7 @@ use crate::object::RawObject;
 use crate::packed::check_packed;
 use wire_read::{Body, Field, Fields};
 
-/// Puts the numbers of a field behind those of its list.
+/// Appends the numbers of a field to those of its list.
 fn add_numbers(
     kind: ObjectKind,
     lists: &mut NumberLists,
@@ -36,7 +36,7 @@ fn add_numbers(
 /// Reads the numbers of an object (`Node`, `DenseNodes`, `Way` or `Relation` of osmformat.proto) into the lists, in
 /// place of what they held. The fault is the first one of the wire format. Nothing is promised of the lists then.
 pub fn read_numbers(object: &RawObject<'_>, lists: &mut NumberLists) -> Result<(), MessageFault>
-    ensures { Becomes result (seen_lists lists.new) (listed (numbers_in (shape_of object.now.kind) object.now.at object.now.bytes.now)) }
+    ensures { Becomes result (seen_lists lists.new) (listed_numbers (numbers_in (shape_of object.now.kind) object.now.at object.now.bytes.now)) }
 {
     lists.clear();
     for field in Fields::new(object.bytes, object.at) {

@@ -3,8 +3,8 @@ ghost use Rattle.std.specs.Prelude.{◌+◌, ◌<◌, ◌^◌, length};
 
 use crate::kind::ObjectKind;
 
-/// A node, a dense message, a way or a relation, as bytes of its block. `at` is the place of its first byte, and
-/// the places of all its bytes are numbers of 64 bits.
+/// A Node, a DenseNodes, a Way or a Relation, as bytes of its block. `at` is the offset of its first byte, and the
+/// offsets of all its bytes are numbers of 64 bits.
 #[derive(Clone, Copy, Debug)]
 pub struct RawObject<'a> {
     pub kind: ObjectKind,

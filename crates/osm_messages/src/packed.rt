@@ -11,7 +11,7 @@ use wire_read::{WireFault, read_varint};
 /// The most bytes that a varint has.
 const MOST_BYTES: u64 = 10;
 
-/// So many bytes are looked at together. Ten bytes in a row have all bytes of one of these groups.
+/// The count of bytes that are looked at together. Ten bytes in a row have all bytes of one of these groups.
 const GROUP: usize = 5;
 
 /// Whether each group of five bytes has one that ends a varint. Then no varint has more than ten bytes.
@@ -82,7 +82,7 @@ pub fn check_packed(bytes: &[u8], at: u64) -> Result<(), WireFault>
     first_fault(bytes, at)
 }
 
-/// Puts the packed numbers behind those of the list. The first byte stands at `at`.
+/// Appends the packed numbers to the list. The first byte stands at `at`.
 pub fn push_packed(numbers: &mut Vec<u64>, bytes: &[u8], at: u64) -> Result<(), MessageFault>
     requires { at + length bytes.now < 2 ^ 64 }
     ensures { Becomes result numbers.new.items (with_values numbers.old.items at bytes.now) }

@@ -5,24 +5,22 @@ ghost use Rattle.osm_messages.specs.Answers.{Answers, Becomes};
 ghost use Rattle.osm_messages.specs.Texts.{text_step, texts_in};
 
 use crate::fault::MessageFault;
+use crate::fields::STRINGTABLE_S;
 use std::alloc::Global;
 use wire_read::{Body, Field, Fields};
 
-/// The number of a text in its table.
-const TEXT: u32 = 1;
-
-/// Puts the text that a field of a table holds behind the others.
+/// Appends the string that a field of a string table holds.
 fn add_text<'a>(texts: &mut Vec<&'a [u8]>, field: Field<'a>) -> Result<(), MessageFault>
     ensures { Becomes result (map (λ text. text.now) texts.new.items) (text_step (map (λ text. text.now) texts.old.items) (seen field.entry)) }
 {
     match field.body {
-        Body::Bytes(text) if field.number == TEXT => texts.push(text)?,
+        Body::Bytes(text) if field.number == STRINGTABLE_S => texts.push(text)?,
         _ => {}
     }
     Ok(())
 }
 
-/// The texts of a table, the first byte of which stands at `at`. They are slices of its bytes.
+/// The strings of a string table, the first byte of which stands at `at`. They are slices of its bytes.
 pub fn read_texts<'a>(
     alloc: Global,
     bytes: &'a [u8],

@@ -16,7 +16,8 @@ use Rattle.osm_messages.specs.Seen.{seen_object}
 use Rattle.osm_messages.specs.Numbers.{shape_of, numbers_in}
 use Rattle.osm_messages.specs.Groups.{Object}
 use Rattle.osm_messages.specs.Blocks.{Block}
-use Rattle.osm_messages.specs.Lists.{Lists, listed}
+use Rattle.osm_messages.specs.Lists.{Lists, listed_numbers}
+use Rattle.osm_messages.specs.RawNumbers.{NodeNumbers, node_numbers, DenseNumbers, dense_numbers, WayNumbers, way_numbers, RelationNumbers, relation_numbers}
 use Rattle.osm_messages.specs.Sizes.{object_bytes, numbers_held}
 use Rattle.osm_messages.proofs.Weights.{lists_in-few}
 use Rattle.osm_model.specs.declared.tags.Tag.{Tag}
@@ -39,10 +40,10 @@ use Rattle.osm_objects.specs.Groups.{into_first, groups_in, exactly, groups_of}
 use Rattle.osm_objects.specs.FirstGroups.{first_group, behind_group, group_read}
 use Rattle.osm_objects.specs.Scales.{units_of, is_within}
 use Rattle.osm_objects.specs.Coordinates.{placed, node_at}
-use Rattle.osm_objects.specs.Nodes.{node_of, nodes_at, grouped_nodes, dense_of}
-use Rattle.osm_objects.specs.Ways.{way_of}
-use Rattle.osm_objects.specs.Relations.{kind_of, members_of, relation_of}
-use Rattle.osm_objects.specs.Objects.{Objects, no_objects, just_nodes, just_ways, just_relations, joined, behind, spelled, lists_in, meaning_of, with_object, with_objects, scale_of, table_of, objects_of}
+use Rattle.osm_objects.specs.Nodes.{decoded_node, nodes_at, grouped_nodes, decoded_dense_nodes}
+use Rattle.osm_objects.specs.Ways.{decoded_way}
+use Rattle.osm_objects.specs.Relations.{member_kind_of, members_of, decoded_relation}
+use Rattle.osm_objects.specs.Objects.{Objects, no_objects, just_nodes, just_ways, just_relations, joined, joined_behind, spelled, lists_in, meaning_of, with_object, with_objects, scale_of, table_of, objects_of}
 use Rattle.osm_objects.specs.Seen.{node_with, way_with, relation_with}
 use Rattle.osm_objects.specs.Sizes.{parts_in}
 use Rattle.osm_objects.proofs.Results.{bind_any, bind_known}
@@ -126,32 +127,32 @@ node_of_tags scale id lat lon tags = node_at scale (unzigzag_of id) (unzigzag_of
 abbrev node_of_pairs : List (List ℕ) → Scale → ℕ → ℕ → ℕ → ℕ → List (ℕ × ℕ) → Result OsmNode ObjectFault
 node_of_pairs table scale at id lat lon pairs = tags_of table at pairs >>= node_of_tags scale id lat lon
 
-abbrev node_of_lon : List (List ℕ) → Scale → ℕ → Lists → ℕ → ℕ → ℕ → Result OsmNode ObjectFault
-node_of_lon table scale at lists id lat lon = pairs_of at lists.second lists.third >>= node_of_pairs table scale at id lat lon
+abbrev node_of_lon : List (List ℕ) → Scale → ℕ → NodeNumbers → ℕ → ℕ → ℕ → Result OsmNode ObjectFault
+node_of_lon table scale at raw id lat lon = pairs_of at raw.keys raw.vals >>= node_of_pairs table scale at id lat lon
 
-abbrev node_of_lat : List (List ℕ) → Scale → ℕ → Lists → ℕ → ℕ → Result OsmNode ObjectFault
-node_of_lat table scale at lists id lat = one_number at 9 lists.ninth >>= node_of_lon table scale at lists id lat
+abbrev node_of_lat : List (List ℕ) → Scale → ℕ → NodeNumbers → ℕ → ℕ → Result OsmNode ObjectFault
+node_of_lat table scale at raw id lat = one_number at 9 raw.lon >>= node_of_lon table scale at raw id lat
 
-abbrev node_of_id : List (List ℕ) → Scale → ℕ → Lists → ℕ → Result OsmNode ObjectFault
-node_of_id table scale at lists id = one_number at 8 lists.eighth >>= node_of_lat table scale at lists id
+abbrev node_of_id : List (List ℕ) → Scale → ℕ → NodeNumbers → ℕ → Result OsmNode ObjectFault
+node_of_id table scale at raw id = one_number at 8 raw.lat >>= node_of_lat table scale at raw id
 
-abbrev FewInNode : Lists → OsmNode → Type 0
-FewInNode lists node = 1 + length node.tags ≤ numbers_held lists
+abbrev FewInNode : NodeNumbers → OsmNode → Type 0
+FewInNode raw node = 1 + length node.tags ≤ length raw.id + length raw.keys
 
-node_of_pairs-few : (table : List (List ℕ)) (scale : Scale) (at : ℕ) (lists : Lists) (id lat lon : ℕ) (pairs : List (ℕ × ℕ)) → 1 ≤ length lists.first → length pairs ≤ length lists.second → IfOk (node_of_pairs table scale at id lat lon pairs) (FewInNode lists)
-node_of_pairs-few table scale at lists id lat lon pairs there few =
-    bind_known (AtMost (length pairs)) (FewInNode lists) (tags_of table at pairs) (node_of_tags scale id lat lon) (tags_of-few table at pairs)
-    (λ tags fewer. if_so (λ (node : OsmNode). length node.tags ≡ length tags) (FewInNode lists) (node_of_tags scale id lat lon tags) (node_at-tags scale (unzigzag_of id) (unzigzag_of lat) (unzigzag_of lon) tags)
+node_of_pairs-few : (table : List (List ℕ)) (scale : Scale) (at : ℕ) (raw : NodeNumbers) (id lat lon : ℕ) (pairs : List (ℕ × ℕ)) → 1 ≤ length raw.id → length pairs ≤ length raw.keys → IfOk (node_of_pairs table scale at id lat lon pairs) (FewInNode raw)
+node_of_pairs-few table scale at raw id lat lon pairs there few =
+    bind_known (AtMost (length pairs)) (FewInNode raw) (tags_of table at pairs) (node_of_tags scale id lat lon) (tags_of-few table at pairs)
+    (λ tags fewer. if_so (λ (node : OsmNode). length node.tags ≡ length tags) (FewInNode raw) (node_of_tags scale id lat lon tags) (node_at-tags scale (unzigzag_of id) (unzigzag_of lat) (unzigzag_of lon) tags)
     (λ node same. omega (arith, there, few, fewer, same)))
 
-node_of-few : (table : List (List ℕ)) (scale : Scale) (at : ℕ) (lists : Lists) → IfOk (node_of table scale at lists) (FewInNode lists)
-unfolding node_of
-node_of-few table scale at lists =
-    bind_known (λ (n : ℕ). 1 ≤ length lists.first) (FewInNode lists) (one_number at 1 lists.first) (node_of_id table scale at lists) (one_number-there at 1 lists.first)
-    (λ id there. bind_any (FewInNode lists) (one_number at 8 lists.eighth) (node_of_lat table scale at lists id)
-    (λ lat. bind_any (FewInNode lists) (one_number at 9 lists.ninth) (node_of_lon table scale at lists id lat)
-    (λ lon. bind_known (AtMost (length lists.second)) (FewInNode lists) (pairs_of at lists.second lists.third) (node_of_pairs table scale at id lat lon) (pairs_of-few at lists.second lists.third)
-    (λ pairs few. node_of_pairs-few table scale at lists id lat lon pairs there few))))
+decoded_node-few : (table : List (List ℕ)) (scale : Scale) (at : ℕ) (raw : NodeNumbers) → IfOk (decoded_node table scale at raw) (FewInNode raw)
+unfolding decoded_node
+decoded_node-few table scale at raw =
+    bind_known (λ (n : ℕ). 1 ≤ length raw.id) (FewInNode raw) (one_number at 1 raw.id) (node_of_id table scale at raw) (one_number-there at 1 raw.id)
+    (λ id there. bind_any (FewInNode raw) (one_number at 8 raw.lat) (node_of_lat table scale at raw id)
+    (λ lat. bind_any (FewInNode raw) (one_number at 9 raw.lon) (node_of_lon table scale at raw id lat)
+    (λ lon. bind_known (AtMost (length raw.keys)) (FewInNode raw) (pairs_of at raw.keys raw.vals) (node_of_pairs table scale at id lat lon) (pairs_of-few at raw.keys raw.vals)
+    (λ pairs few. node_of_pairs-few table scale at raw id lat lon pairs there few))))
 
 sums_of-as_many : (at : ℕ) (differences : List ℕ) → IfOk (sums_of at differences) (λ sums. length sums ≡ length differences)
 sums_of-as_many at differences = if_given (λ (sums : List ℤ). length sums ≡ length differences) (sums_of at differences) (λ sums e. sums-length at differences sums e)
@@ -163,22 +164,22 @@ way_of_tags id refs tags = Ok (record { id = cast_signed w64 id; tags = tags; re
 abbrev way_of_refs : List (List ℕ) → ℕ → ℕ → List (ℕ × ℕ) → List ℤ → Result OsmWay ObjectFault
 way_of_refs table at id pairs refs = tags_of table at pairs >>= way_of_tags id refs
 
-abbrev way_of_pairs : List (List ℕ) → ℕ → Lists → ℕ → List (ℕ × ℕ) → Result OsmWay ObjectFault
-way_of_pairs table at lists id pairs = sums_of at lists.eighth >>= way_of_refs table at id pairs
+abbrev way_of_pairs : List (List ℕ) → ℕ → WayNumbers → ℕ → List (ℕ × ℕ) → Result OsmWay ObjectFault
+way_of_pairs table at raw id pairs = sums_of at raw.refs >>= way_of_refs table at id pairs
 
-abbrev way_of_id : List (List ℕ) → ℕ → Lists → ℕ → Result OsmWay ObjectFault
-way_of_id table at lists id = pairs_of at lists.second lists.third >>= way_of_pairs table at lists id
+abbrev way_of_id : List (List ℕ) → ℕ → WayNumbers → ℕ → Result OsmWay ObjectFault
+way_of_id table at raw id = pairs_of at raw.keys raw.vals >>= way_of_pairs table at raw id
 
-abbrev FewInWay : Lists → OsmWay → Type 0
-FewInWay lists way = length way.tags + length way.refs ≤ numbers_held lists
+abbrev FewInWay : WayNumbers → OsmWay → Type 0
+FewInWay raw way = length way.tags + length way.refs ≤ length raw.keys + length raw.refs
 
-way_of-few : (table : List (List ℕ)) (at : ℕ) (lists : Lists) → IfOk (way_of table at lists) (FewInWay lists)
-unfolding way_of
-way_of-few table at lists =
-    bind_any (FewInWay lists) (one_number at 1 lists.first) (way_of_id table at lists)
-    (λ id. bind_known (AtMost (length lists.second)) (FewInWay lists) (pairs_of at lists.second lists.third) (way_of_pairs table at lists id) (pairs_of-few at lists.second lists.third)
-    (λ pairs few. bind_known (λ (sums : List ℤ). length sums ≡ length lists.eighth) (FewInWay lists) (sums_of at lists.eighth) (way_of_refs table at id pairs) (sums_of-as_many at lists.eighth)
-    (λ refs many. bind_known (AtMost (length pairs)) (FewInWay lists) (tags_of table at pairs) (way_of_tags id refs) (tags_of-few table at pairs)
+decoded_way-few : (table : List (List ℕ)) (at : ℕ) (raw : WayNumbers) → IfOk (decoded_way table at raw) (FewInWay raw)
+unfolding decoded_way
+decoded_way-few table at raw =
+    bind_any (FewInWay raw) (one_number at 1 raw.id) (way_of_id table at raw)
+    (λ id. bind_known (AtMost (length raw.keys)) (FewInWay raw) (pairs_of at raw.keys raw.vals) (way_of_pairs table at raw id) (pairs_of-few at raw.keys raw.vals)
+    (λ pairs few. bind_known (λ (sums : List ℤ). length sums ≡ length raw.refs) (FewInWay raw) (sums_of at raw.refs) (way_of_refs table at id pairs) (sums_of-as_many at raw.refs)
+    (λ refs many. bind_known (AtMost (length pairs)) (FewInWay raw) (tags_of table at pairs) (way_of_tags id refs) (tags_of-few table at pairs)
     (λ tags fewer. omega (arith, few, fewer, many)))))
 
 abbrev member_with : ℤ → MemberKind → List ℕ → List Member → Result (List Member) ObjectFault
@@ -195,45 +196,45 @@ members_of-few table at _ _ _ = omega arith
 abbrev relation_of_members : ℕ → List Tag → List Member → Result OsmRelation ObjectFault
 relation_of_members id tags members = Ok (record { id = cast_signed w64 id; tags = tags; members = members })
 
-abbrev relation_of_tags : List (List ℕ) → ℕ → Lists → ℕ → List MemberKind → List ℤ → List Tag → Result OsmRelation ObjectFault
-relation_of_tags table at lists id types ids tags = members_of table at lists.eighth ids types >>= relation_of_members id tags
+abbrev relation_of_tags : List (List ℕ) → ℕ → RelationNumbers → ℕ → List MemberKind → List ℤ → List Tag → Result OsmRelation ObjectFault
+relation_of_tags table at raw id types ids tags = members_of table at raw.roles_sid ids types >>= relation_of_members id tags
 
-abbrev relation_of_ids : List (List ℕ) → ℕ → Lists → ℕ → List (ℕ × ℕ) → List MemberKind → List ℤ → Result OsmRelation ObjectFault
-relation_of_ids table at lists id pairs types ids = tags_of table at pairs >>= relation_of_tags table at lists id types ids
+abbrev relation_of_ids : List (List ℕ) → ℕ → RelationNumbers → ℕ → List (ℕ × ℕ) → List MemberKind → List ℤ → Result OsmRelation ObjectFault
+relation_of_ids table at raw id pairs types ids = tags_of table at pairs >>= relation_of_tags table at raw id types ids
 
-abbrev relation_of_types : List (List ℕ) → ℕ → Lists → ℕ → List (ℕ × ℕ) → List MemberKind → Result OsmRelation ObjectFault
-relation_of_types table at lists id pairs types = sums_of at lists.ninth >>= relation_of_ids table at lists id pairs types
+abbrev relation_of_types : List (List ℕ) → ℕ → RelationNumbers → ℕ → List (ℕ × ℕ) → List MemberKind → Result OsmRelation ObjectFault
+relation_of_types table at raw id pairs types = sums_of at raw.memids >>= relation_of_ids table at raw id pairs types
 
-abbrev relation_of_even : List (List ℕ) → ℕ → Lists → ℕ → List (ℕ × ℕ) → Result OsmRelation ObjectFault
-relation_of_even table at lists id pairs = each (kind_of at) lists.tenth >>= relation_of_types table at lists id pairs
+abbrev relation_of_even : List (List ℕ) → ℕ → RelationNumbers → ℕ → List (ℕ × ℕ) → Result OsmRelation ObjectFault
+relation_of_even table at raw id pairs = each (member_kind_of at) raw.types >>= relation_of_types table at raw id pairs
 
-abbrev relation_of_pairs : List (List ℕ) → ℕ → Lists → ℕ → List (ℕ × ℕ) → Result OsmRelation ObjectFault
-relation_of_pairs table at lists id pairs = as_many at lists.eighth lists.ninth >>= λ ids_even. as_many at lists.eighth lists.tenth >>= λ types_even. relation_of_even table at lists id pairs
+abbrev relation_of_pairs : List (List ℕ) → ℕ → RelationNumbers → ℕ → List (ℕ × ℕ) → Result OsmRelation ObjectFault
+relation_of_pairs table at raw id pairs = as_many at raw.roles_sid raw.memids >>= λ ids_even. as_many at raw.roles_sid raw.types >>= λ types_even. relation_of_even table at raw id pairs
 
-abbrev relation_of_id : List (List ℕ) → ℕ → Lists → ℕ → Result OsmRelation ObjectFault
-relation_of_id table at lists id = pairs_of at lists.second lists.third >>= relation_of_pairs table at lists id
+abbrev relation_of_id : List (List ℕ) → ℕ → RelationNumbers → ℕ → Result OsmRelation ObjectFault
+relation_of_id table at raw id = pairs_of at raw.keys raw.vals >>= relation_of_pairs table at raw id
 
-abbrev FewInRelation : Lists → OsmRelation → Type 0
-FewInRelation lists relation = length relation.tags + length relation.members ≤ numbers_held lists
+abbrev FewInRelation : RelationNumbers → OsmRelation → Type 0
+FewInRelation raw relation = length relation.tags + length relation.members ≤ length raw.keys + length raw.roles_sid
 
-relation_of_even-few : (table : List (List ℕ)) (at : ℕ) (lists : Lists) (id : ℕ) (pairs : List (ℕ × ℕ)) → length pairs ≤ length lists.second → IfOk (relation_of_even table at lists id pairs) (FewInRelation lists)
-relation_of_even-few table at lists id pairs few =
-    bind_any (FewInRelation lists) (each (kind_of at) lists.tenth) (relation_of_types table at lists id pairs)
-    (λ types. bind_any (FewInRelation lists) (sums_of at lists.ninth) (relation_of_ids table at lists id pairs types)
-    (λ ids. bind_known (AtMost (length pairs)) (FewInRelation lists) (tags_of table at pairs) (relation_of_tags table at lists id types ids) (tags_of-few table at pairs)
-    (λ tags fewer. bind_known (AtMost (length lists.eighth)) (FewInRelation lists) (members_of table at lists.eighth ids types) (relation_of_members id tags) (members_of-few table at lists.eighth ids types)
+relation_of_even-few : (table : List (List ℕ)) (at : ℕ) (raw : RelationNumbers) (id : ℕ) (pairs : List (ℕ × ℕ)) → length pairs ≤ length raw.keys → IfOk (relation_of_even table at raw id pairs) (FewInRelation raw)
+relation_of_even-few table at raw id pairs few =
+    bind_any (FewInRelation raw) (each (member_kind_of at) raw.types) (relation_of_types table at raw id pairs)
+    (λ types. bind_any (FewInRelation raw) (sums_of at raw.memids) (relation_of_ids table at raw id pairs types)
+    (λ ids. bind_known (AtMost (length pairs)) (FewInRelation raw) (tags_of table at pairs) (relation_of_tags table at raw id types ids) (tags_of-few table at pairs)
+    (λ tags fewer. bind_known (AtMost (length raw.roles_sid)) (FewInRelation raw) (members_of table at raw.roles_sid ids types) (relation_of_members id tags) (members_of-few table at raw.roles_sid ids types)
     (λ members many. omega (arith, few, fewer, many)))))
 
-relation_of-few : (table : List (List ℕ)) (at : ℕ) (lists : Lists) → IfOk (relation_of table at lists) (FewInRelation lists)
-unfolding relation_of
-relation_of-few table at lists =
-    bind_any (FewInRelation lists) (one_number at 1 lists.first) (relation_of_id table at lists)
-    (λ id. bind_known (AtMost (length lists.second)) (FewInRelation lists) (pairs_of at lists.second lists.third) (relation_of_pairs table at lists id) (pairs_of-few at lists.second lists.third)
-    (λ pairs few. bind_any (FewInRelation lists) (as_many at lists.eighth lists.ninth) (λ ids_even. as_many at lists.eighth lists.tenth >>= λ types_even. relation_of_even table at lists id pairs)
-    (λ ids_even. bind_any (FewInRelation lists) (as_many at lists.eighth lists.tenth) (λ types_even. relation_of_even table at lists id pairs)
-    (λ types_even. relation_of_even-few table at lists id pairs few))))
+decoded_relation-few : (table : List (List ℕ)) (at : ℕ) (raw : RelationNumbers) → IfOk (decoded_relation table at raw) (FewInRelation raw)
+unfolding decoded_relation
+decoded_relation-few table at raw =
+    bind_any (FewInRelation raw) (one_number at 1 raw.id) (relation_of_id table at raw)
+    (λ id. bind_known (AtMost (length raw.keys)) (FewInRelation raw) (pairs_of at raw.keys raw.vals) (relation_of_pairs table at raw id) (pairs_of-few at raw.keys raw.vals)
+    (λ pairs few. bind_any (FewInRelation raw) (as_many at raw.roles_sid raw.memids) (λ ids_even. as_many at raw.roles_sid raw.types >>= λ types_even. relation_of_even table at raw id pairs)
+    (λ ids_even. bind_any (FewInRelation raw) (as_many at raw.roles_sid raw.types) (λ types_even. relation_of_even table at raw id pairs)
+    (λ types_even. relation_of_even-few table at raw id pairs few))))
 
--- ---- a dense message
+-- ---- a DenseNodes
 
 abbrev lengths : {A : Type 0} → List (List A) → ℕ
 lengths {A = A} lists = sum_by (λ (l : List A). length l) lists
@@ -293,38 +294,38 @@ nodes_at-few scale (id ∷ ids) (lat ∷ lats) (lon ∷ lons) (tags ∷ tag_list
     (λ nodes few. (omega (arith, few.0), omega (arith, few.1, same, sum_by-cons (λ (n : OsmNode). length n.tags) node nodes, sum_by-cons (λ (l : List Tag). length l) tags tag_lists))))
 nodes_at-few scale _ _ _ _ = (omega arith, omega arith)
 
--- the nodes of a dense message, from each step on
+-- the nodes of a DenseNodes, from each step on
 abbrev dense_of_lons : List (List ℕ) → Scale → ℕ → List (List (ℕ × ℕ)) → List ℤ → List ℤ → List ℤ → Result (List OsmNode) ObjectFault
 dense_of_lons table scale at groups ids lats lons = each (tags_of table at) groups >>= nodes_at scale ids lats lons
 
-abbrev dense_of_ids : List (List ℕ) → Scale → ℕ → Lists → List (List (ℕ × ℕ)) → List ℤ → Result (List OsmNode) ObjectFault
-dense_of_ids table scale at lists groups ids = sums_of at lists.eighth >>= λ lats. sums_of at lists.ninth >>= dense_of_lons table scale at groups ids lats
+abbrev dense_of_ids : List (List ℕ) → Scale → ℕ → DenseNumbers → List (List (ℕ × ℕ)) → List ℤ → Result (List OsmNode) ObjectFault
+dense_of_ids table scale at raw groups ids = sums_of at raw.lat >>= λ lats. sums_of at raw.lon >>= dense_of_lons table scale at groups ids lats
 
-abbrev dense_of_groups : List (List ℕ) → Scale → ℕ → Lists → List (List (ℕ × ℕ)) → Result (List OsmNode) ObjectFault
-dense_of_groups table scale at lists groups = sums_of at lists.first >>= dense_of_ids table scale at lists groups
+abbrev dense_of_groups : List (List ℕ) → Scale → ℕ → DenseNumbers → List (List (ℕ × ℕ)) → Result (List OsmNode) ObjectFault
+dense_of_groups table scale at raw groups = sums_of at raw.id >>= dense_of_ids table scale at raw groups
 
-abbrev dense_of_even : List (List ℕ) → Scale → ℕ → Lists → Result (List OsmNode) ObjectFault
-dense_of_even table scale at lists = groups_of at (length lists.first) lists.tenth >>= dense_of_groups table scale at lists
+abbrev dense_of_even : List (List ℕ) → Scale → ℕ → DenseNumbers → Result (List OsmNode) ObjectFault
+dense_of_even table scale at raw = groups_of at (length raw.id) raw.keys_vals >>= dense_of_groups table scale at raw
 
-abbrev FewInDense : Lists → List OsmNode → Type 0
-FewInDense lists nodes = FewNodes (length lists.first) (length lists.tenth) nodes
+abbrev FewInDense : DenseNumbers → List OsmNode → Type 0
+FewInDense raw nodes = FewNodes (length raw.id) (length raw.keys_vals) nodes
 
-dense_of_groups-few : (table : List (List ℕ)) (scale : Scale) (at : ℕ) (lists : Lists) (groups : List (List (ℕ × ℕ))) → lengths groups ≤ length lists.tenth → IfOk (dense_of_groups table scale at lists groups) (FewInDense lists)
-dense_of_groups-few table scale at lists groups few =
-    bind_known (λ (sums : List ℤ). length sums ≡ length lists.first) (FewInDense lists) (sums_of at lists.first) (dense_of_ids table scale at lists groups) (sums_of-as_many at lists.first)
-    (λ ids many. bind_any (FewInDense lists) (sums_of at lists.eighth) (λ lats. sums_of at lists.ninth >>= dense_of_lons table scale at groups ids lats)
-    (λ lats. bind_any (FewInDense lists) (sums_of at lists.ninth) (dense_of_lons table scale at groups ids lats)
-    (λ lons. bind_known (λ (tag_lists : List (List Tag)). lengths tag_lists ≤ lengths groups) (FewInDense lists) (each (tags_of table at) groups) (nodes_at scale ids lats lons) (tag_lists-few table at groups)
-    (λ tag_lists fewer. if_so (FewNodes (length ids) (lengths tag_lists)) (FewInDense lists) (nodes_at scale ids lats lons tag_lists) (nodes_at-few scale ids lats lons tag_lists)
+dense_of_groups-few : (table : List (List ℕ)) (scale : Scale) (at : ℕ) (raw : DenseNumbers) (groups : List (List (ℕ × ℕ))) → lengths groups ≤ length raw.keys_vals → IfOk (dense_of_groups table scale at raw groups) (FewInDense raw)
+dense_of_groups-few table scale at raw groups few =
+    bind_known (λ (sums : List ℤ). length sums ≡ length raw.id) (FewInDense raw) (sums_of at raw.id) (dense_of_ids table scale at raw groups) (sums_of-as_many at raw.id)
+    (λ ids many. bind_any (FewInDense raw) (sums_of at raw.lat) (λ lats. sums_of at raw.lon >>= dense_of_lons table scale at groups ids lats)
+    (λ lats. bind_any (FewInDense raw) (sums_of at raw.lon) (dense_of_lons table scale at groups ids lats)
+    (λ lons. bind_known (λ (tag_lists : List (List Tag)). lengths tag_lists ≤ lengths groups) (FewInDense raw) (each (tags_of table at) groups) (nodes_at scale ids lats lons) (tag_lists-few table at groups)
+    (λ tag_lists fewer. if_so (FewNodes (length ids) (lengths tag_lists)) (FewInDense raw) (nodes_at scale ids lats lons tag_lists) (nodes_at-few scale ids lats lons tag_lists)
     (λ nodes all. (omega (arith, all.0, many), omega (arith, all.1, fewer, few)))))))
 
-dense_of-few : (table : List (List ℕ)) (scale : Scale) (at : ℕ) (lists : Lists) → IfOk (dense_of table scale at lists) (FewInDense lists)
-unfolding dense_of grouped_nodes
-dense_of-few table scale at lists =
-    bind_any (FewInDense lists) (as_many at lists.first lists.eighth) (λ lats_even. as_many at lists.first lists.ninth >>= λ lons_even. dense_of_even table scale at lists)
-    (λ lats_even. bind_any (FewInDense lists) (as_many at lists.first lists.ninth) (λ lons_even. dense_of_even table scale at lists)
-    (λ lons_even. bind_known (λ (groups : List (List (ℕ × ℕ))). lengths groups ≤ length lists.tenth) (FewInDense lists) (groups_of at (length lists.first) lists.tenth) (dense_of_groups table scale at lists) (groups_of-few at (length lists.first) lists.tenth)
-    (λ groups few. dense_of_groups-few table scale at lists groups few)))
+decoded_dense_nodes-few : (table : List (List ℕ)) (scale : Scale) (at : ℕ) (raw : DenseNumbers) → IfOk (decoded_dense_nodes table scale at raw) (FewInDense raw)
+unfolding decoded_dense_nodes grouped_nodes
+decoded_dense_nodes-few table scale at raw =
+    bind_any (FewInDense raw) (as_many at raw.id raw.lat) (λ lats_even. as_many at raw.id raw.lon >>= λ lons_even. dense_of_even table scale at raw)
+    (λ lats_even. bind_any (FewInDense raw) (as_many at raw.id raw.lon) (λ lons_even. dense_of_even table scale at raw)
+    (λ lons_even. bind_known (λ (groups : List (List (ℕ × ℕ))). lengths groups ≤ length raw.keys_vals) (FewInDense raw) (groups_of at (length raw.id) raw.keys_vals) (dense_of_groups table scale at raw) (groups_of-few at (length raw.id) raw.keys_vals)
+    (λ groups few. dense_of_groups-few table scale at raw groups few)))
 
 -- ---- objects
 
@@ -333,16 +334,16 @@ PartsAtMost most objects = parts_in objects ≤ most
 
 meaning_of-few : (kind : ObjectKind) (table : List (List ℕ)) (scale : Scale) (at : ℕ) (lists : Lists) → IfOk (meaning_of kind table scale at lists) (PartsAtMost (numbers_held lists))
 meaning_of-few kinds.Node table scale at lists =
-    bind_known (FewInNode lists) (PartsAtMost (numbers_held lists)) (node_of table scale at lists) (λ node. Ok (just_nodes (node ∷ []))) (node_of-few table scale at lists)
+    bind_known (FewInNode (node_numbers lists)) (PartsAtMost (numbers_held lists)) (decoded_node table scale at (node_numbers lists)) (λ node. Ok (just_nodes (node ∷ []))) (decoded_node-few table scale at (node_numbers lists))
     (λ node few. omega (arith, few))
-meaning_of-few kinds.Dense table scale at lists =
-    bind_known (FewInDense lists) (PartsAtMost (numbers_held lists)) (dense_of table scale at lists) (λ nodes. Ok (just_nodes nodes)) (dense_of-few table scale at lists)
+meaning_of-few kinds.DenseNodes table scale at lists =
+    bind_known (FewInDense (dense_numbers lists)) (PartsAtMost (numbers_held lists)) (decoded_dense_nodes table scale at (dense_numbers lists)) (λ nodes. Ok (just_nodes nodes)) (decoded_dense_nodes-few table scale at (dense_numbers lists))
     (λ nodes few. omega (arith, few.0, few.1))
 meaning_of-few kinds.Way table scale at lists =
-    bind_known (FewInWay lists) (PartsAtMost (numbers_held lists)) (way_of table at lists) (λ way. Ok (just_ways (way ∷ []))) (way_of-few table at lists)
+    bind_known (FewInWay (way_numbers lists)) (PartsAtMost (numbers_held lists)) (decoded_way table at (way_numbers lists)) (λ way. Ok (just_ways (way ∷ []))) (decoded_way-few table at (way_numbers lists))
     (λ way few. omega (arith, few))
 meaning_of-few kinds.Relation table scale at lists =
-    bind_known (FewInRelation lists) (PartsAtMost (numbers_held lists)) (relation_of table at lists) (λ relation. Ok (just_relations (relation ∷ []))) (relation_of-few table at lists)
+    bind_known (FewInRelation (relation_numbers lists)) (PartsAtMost (numbers_held lists)) (decoded_relation table at (relation_numbers lists)) (λ relation. Ok (just_relations (relation ∷ []))) (decoded_relation-few table at (relation_numbers lists))
     (λ relation few. omega (arith, few))
 
 -- the numbers of an object are at most its bytes
@@ -353,7 +354,7 @@ spelled-few (Err d) most few = omega arith
 lists_in-at_most : (object : Object) → numbers_held (lists_in object) ≤ length object.bytes
 unfolding lists_in
 lists_in-at_most object =
-    spelled-few (listed (numbers_in (shape_of object.kind) object.at object.bytes)) (length object.bytes)
+    spelled-few (listed_numbers (numbers_in (shape_of object.kind) object.at object.bytes)) (length object.bytes)
     (λ lists e. lists_in-few (shape_of object.kind) object.at object.bytes lists e)
 
 pub parts-joined : (before more : Objects) → parts_in (joined before more) ≡ parts_in before + parts_in more
@@ -392,48 +393,52 @@ block-few at block =
     (λ table. if_so (PartsAtMost (parts_in no_objects + object_bytes block.objects)) (PartsAtMost (object_bytes block.objects)) (with_objects table (scale_of block) no_objects block.objects) (objects-few table (scale_of block) no_objects block.objects)
     (λ end few. omega (arith, few)))
 
-behind-few : (before : Objects) (given : Result Objects ObjectFault) (most : ℕ) → IfOk given (PartsAtMost most) → IfOk (behind before given) (PartsAtMost (parts_in before + most))
+behind-few : (before : Objects) (given : Result Objects ObjectFault) (most : ℕ) → IfOk given (PartsAtMost most) → IfOk (joined_behind before given) (PartsAtMost (parts_in before + most))
 behind-few before given most few =
     bind_known (PartsAtMost most) (PartsAtMost (parts_in before + most)) given (λ more. Ok (joined before more)) few (λ more m. omega (arith, m, parts-joined before more))
 
 -- a block more has at most so many parts as its objects have bytes
-pub block-adds : (at : ℕ) (block : Block) (before now : Objects) → behind before (objects_of at block) ≡ Ok now → parts_in now ≤ parts_in before + object_bytes block.objects
+pub block-adds : (at : ℕ) (block : Block) (before now : Objects) → joined_behind before (objects_of at block) ≡ Ok now → parts_in now ≤ parts_in before + object_bytes block.objects
 block-adds at block before now e =
     IfOk-at_ok (PartsAtMost (parts_in before + object_bytes block.objects)) e (behind-few before (objects_of at block) (object_bytes block.objects) (block-few at block))
 
 -- ---- room in the lists
 
 abbrev ReadAs : Object → Lists → Type 0
-ReadAs object lists = listed (numbers_in (shape_of object.kind) object.at object.bytes) ≡ Ok lists
+ReadAs object lists = listed_numbers (numbers_in (shape_of object.kind) object.at object.bytes) ≡ Ok lists
 
 read-few : (object : Object) (lists : Lists) → ReadAs object lists → numbers_held lists ≤ length object.bytes
 read-few object lists read = lists_in-few (shape_of object.kind) object.at object.bytes lists read
 
-pub node-fits : (table : List (List ℕ)) (scale : Scale) (old : Objects) (object : Object) (lists : Lists) (spot : Spot) (tags tags' : List Tag) → ReadAs object lists → node_of table scale object.at lists ≡ Ok (node_with spot tags) → tags' ≡ tags → parts_in old + length object.bytes < 2 ^ 31 → NodeFits old.nodes (length tags')
+pub node-fits : (table : List (List ℕ)) (scale : Scale) (old : Objects) (object : Object) (lists : Lists) (spot : Spot) (tags tags' : List Tag) → ReadAs object lists → decoded_node table scale object.at (node_numbers lists) ≡ Ok (node_with spot tags) → tags' ≡ tags → parts_in old + length object.bytes < 2 ^ 31 → NodeFits old.nodes (length tags')
 node-fits table scale old object lists spot tags tags' read e same room =
-    let few : 1 + length tags ≤ numbers_held lists = IfOk-at_ok (FewInNode lists) e (node_of-few table scale object.at lists) in
+    let few : 1 + length tags ≤ length lists.field_1 + length lists.field_2 = IfOk-at_ok (FewInNode (node_numbers lists)) e (decoded_node-few table scale object.at (node_numbers lists)) in
     let many : length tags' ≡ length tags = ap (λ (l : List Tag). length l) same in
     record { its_place = omega (arith, few, room, read-few object lists read); its_tags = omega (arith, many, few, room, read-few object lists read) }
 
-pub way-fits : (table : List (List ℕ)) (old : Objects) (object : Object) (lists : Lists) (id : ℤ) (tags tags' : List Tag) (refs refs' : List ℤ) → ReadAs object lists → way_of table object.at lists ≡ Ok (way_with id tags refs) → tags' ≡ tags → refs' ≡ refs → parts_in old + length object.bytes < 2 ^ 31 → WayFits old.ways (length tags') (length refs')
+pub way-fits : (table : List (List ℕ)) (old : Objects) (object : Object) (lists : Lists) (id : ℤ) (tags tags' : List Tag) (refs refs' : List ℤ) → ReadAs object lists → decoded_way table object.at (way_numbers lists) ≡ Ok (way_with id tags refs) → tags' ≡ tags → refs' ≡ refs → parts_in old + length object.bytes < 2 ^ 31 → WayFits old.ways (length tags') (length refs')
 way-fits table old object lists id tags tags' refs refs' read e same alike room =
-    let few : length tags + length refs ≤ numbers_held lists = IfOk-at_ok (FewInWay lists) e (way_of-few table object.at lists) in
+    let few : length tags + length refs ≤ length lists.field_2 + length lists.field_8 = IfOk-at_ok (FewInWay (way_numbers lists)) e (decoded_way-few table object.at (way_numbers lists)) in
     let many : length tags' ≡ length tags = ap (λ (l : List Tag). length l) same in
     let more : length refs' ≡ length refs = ap (λ (l : List ℤ). length l) alike in
     record { its_tags = omega (arith, many, few, room, read-few object lists read); its_refs = omega (arith, more, few, room, read-few object lists read) }
 
-pub relation-fits : (table : List (List ℕ)) (old : Objects) (object : Object) (lists : Lists) (id : ℤ) (tags tags' : List Tag) (members members' : List Member) → ReadAs object lists → relation_of table object.at lists ≡ Ok (relation_with id tags members) → tags' ≡ tags → members' ≡ members → parts_in old + length object.bytes < 2 ^ 31 → RelationFits old.relations (length tags') (length members')
+pub relation-fits : (table : List (List ℕ)) (old : Objects) (object : Object) (lists : Lists) (id : ℤ) (tags tags' : List Tag) (members members' : List Member) → ReadAs object lists → decoded_relation table object.at (relation_numbers lists) ≡ Ok (relation_with id tags members) → tags' ≡ tags → members' ≡ members → parts_in old + length object.bytes < 2 ^ 31 → RelationFits old.relations (length tags') (length members')
 relation-fits table old object lists id tags tags' members members' read e same alike room =
-    let few : length tags + length members ≤ numbers_held lists = IfOk-at_ok (FewInRelation lists) e (relation_of-few table object.at lists) in
+    let few : length tags + length members ≤ length lists.field_2 + length lists.field_8 = IfOk-at_ok (FewInRelation (relation_numbers lists)) e (decoded_relation-few table object.at (relation_numbers lists)) in
     let many : length tags' ≡ length tags = ap (λ (l : List Tag). length l) same in
     let more : length members' ≡ length members = ap (λ (l : List Member). length l) alike in
     record { its_tags = omega (arith, many, few, room, read-few object lists read); its_members = omega (arith, more, few, room, read-few object lists read) }
 
--- there is room for the nodes and the tags of a dense message
-pub dense-fits : (old : Objects) (object : Object) (lists : Lists) → ReadAs object lists → parts_in old + length object.bytes < 2 ^ 31 → (length old.nodes + length lists.first < 2 ^ 31) × (tags_of_nodes old.nodes + length lists.tenth < 2 ^ 31)
-dense-fits old object lists read room = (omega (arith, room, read-few object lists read), omega (arith, room, read-few object lists read))
+-- there is room for the nodes and the tags of a DenseNodes
+pub dense-fits : (old : Objects) (object : Object) (lists : Lists) (raw : DenseNumbers) → ReadAs object lists → raw ≡ dense_numbers lists → parts_in old + length object.bytes < 2 ^ 31
+    → (length old.nodes + length raw.id < 2 ^ 31) × (tags_of_nodes old.nodes + length raw.keys_vals < 2 ^ 31)
+dense-fits old object lists raw read same room =
+    let ids : length raw.id ≡ length lists.field_1 = ap (λ (r : DenseNumbers). length r.id) same in
+    let pairs : length raw.keys_vals ≡ length lists.field_10 = ap (λ (r : DenseNumbers). length r.keys_vals) same in
+    (omega (arith, ids, room, read-few object lists read), omega (arith, pairs, room, read-few object lists read))
 
--- ---- the nodes of a dense message, one after the other
+-- ---- the nodes of a DenseNodes, one after the other
 
 groups-apart : (numbers : List ℕ) → length (first_group numbers) + length (behind_group numbers) ≤ length numbers
 groups-apart [] = omega arith
@@ -453,13 +458,13 @@ pub record NodesSoFar (old now : List OsmNode) (i : ℕ) (numbers rest : List �
   pub places : length now ≤ length old + i
   pub their_tags : tags_of_nodes now + length rest ≤ tags_of_nodes old + length numbers
 
-pub one-fits : (old now : List OsmNode) (i count : ℕ) (numbers rest behind : List ℕ) (tags tags' : List Tag) → NodesSoFar old now i numbers rest → i < count → length old + count < 2 ^ 31 → tags_of_nodes old + length numbers < 2 ^ 31 → length tags + length behind ≤ length rest → tags' ≡ tags → NodeFits now (length tags')
-one-fits old now i count numbers rest behind tags tags' so_far h places room few same =
+pub one-fits : (old now : List OsmNode) (i count : ℕ) (numbers rest joined_behind : List ℕ) (tags tags' : List Tag) → NodesSoFar old now i numbers rest → i < count → length old + count < 2 ^ 31 → tags_of_nodes old + length numbers < 2 ^ 31 → length tags + length joined_behind ≤ length rest → tags' ≡ tags → NodeFits now (length tags')
+one-fits old now i count numbers rest joined_behind tags tags' so_far h places room few same =
     let many : length tags' ≡ length tags = ap (λ (l : List Tag). length l) same in
     record { its_place = omega (arith, so_far.places, h, places); its_tags = omega (arith, many, so_far.their_tags, few, room) }
 
-pub NodesSoFar-placed : (old now then : List OsmNode) (i : ℕ) (numbers rest behind : List ℕ) (node : OsmNode) (tags : List Tag) → NodesSoFar old now i numbers rest → length tags + length behind ≤ length rest → node.tags ≡ tags → then ≡ now ++ node ∷ [] → NodesSoFar old then (i + 1) numbers behind
-NodesSoFar-placed old now then i numbers rest behind node tags so_far few same pushed =
+pub NodesSoFar-placed : (old now then : List OsmNode) (i : ℕ) (numbers rest joined_behind : List ℕ) (node : OsmNode) (tags : List Tag) → NodesSoFar old now i numbers rest → length tags + length joined_behind ≤ length rest → node.tags ≡ tags → then ≡ now ++ node ∷ [] → NodesSoFar old then (i + 1) numbers joined_behind
+NodesSoFar-placed old now then i numbers rest joined_behind node tags so_far few same pushed =
     let many : length node.tags ≡ length tags = ap (λ (l : List Tag). length l) same in
     let one : length then ≡ length (now ++ node ∷ []) = ap (λ (l : List OsmNode). length l) pushed in
     let their : tags_of_nodes then ≡ tags_of_nodes (now ++ node ∷ []) = ap tags_of_nodes pushed in
@@ -468,8 +473,8 @@ NodesSoFar-placed old now then i numbers rest behind node tags so_far few same p
       their_tags = omega (arith, so_far.their_tags, few, many, their, sum_by_push (λ (n : OsmNode). length n.tags) now node);
     }
 
-pub NodesSoFar-misplaced : (old now then : List OsmNode) (i : ℕ) (numbers rest behind : List ℕ) (tags : List Tag) → NodesSoFar old now i numbers rest → length tags + length behind ≤ length rest → then ≡ now → NodesSoFar old then (i + 1) numbers behind
-NodesSoFar-misplaced old now then i numbers rest behind tags so_far few same =
+pub NodesSoFar-misplaced : (old now then : List OsmNode) (i : ℕ) (numbers rest joined_behind : List ℕ) (tags : List Tag) → NodesSoFar old now i numbers rest → length tags + length joined_behind ≤ length rest → then ≡ now → NodesSoFar old then (i + 1) numbers joined_behind
+NodesSoFar-misplaced old now then i numbers rest joined_behind tags so_far few same =
     let one : length then ≡ length now = ap (λ (l : List OsmNode). length l) same in
     let their : tags_of_nodes then ≡ tags_of_nodes now = ap tags_of_nodes same in
     record { places = omega (arith, so_far.places, one); their_tags = omega (arith, so_far.their_tags, few, their) }

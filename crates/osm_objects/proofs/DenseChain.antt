@@ -1,6 +1,6 @@
--- A dense message, part by part.
+-- A DenseNodes, part by part.
 use Rattle.std.proofs.Common.{◌≡◌, ℕ, ℤ, List, length, Result, Ok, Err, IsOk, refl, sym, ap, ◌∙◌}
-use Rattle.osm_messages.specs.Lists.{Lists}
+use Rattle.osm_messages.specs.RawNumbers.{DenseNumbers}
 use Rattle.osm_model.specs.declared.nodes.OsmNode.{OsmNode}
 use Rattle.osm_objects.specs.declared.fault.ObjectFault.{ObjectFault}
 use Rattle.osm_objects.specs.declared.scale.Scale.{Scale}
@@ -8,7 +8,7 @@ use Rattle.osm_objects.specs.Steps.{◌>>=◌}
 use Rattle.osm_objects.specs.Parts.{as_many}
 use Rattle.osm_objects.specs.Sums.{sums_of}
 use Rattle.osm_objects.specs.Groups.{groups_of}
-use Rattle.osm_objects.specs.Nodes.{grouped_nodes, dense_of}
+use Rattle.osm_objects.specs.Nodes.{grouped_nodes, decoded_dense_nodes}
 use Rattle.osm_objects.specs.FirstGroups.{nodes_read}
 use Rattle.osm_objects.proofs.KeysValues.{Groups}
 use Rattle.osm_objects.proofs.Lengths.{sums-length}
@@ -32,11 +32,11 @@ summed_each : (gr : Result Groups ObjectFault) (a b c : Result (List ℤ) Object
 summed_each (Ok gs) a b c ids lats lons k e f g = summed a b c ids lats lons (k gs) e f g
 summed_each (Err d) a b c ids lats lons k e f g = refl
 
-pub dense-nodes : (table : List (List ℕ)) (scale : Scale) (at : ℕ) (lists : Lists) (ids lats lons : List ℤ) → IsOk (as_many at lists.first lists.eighth) → IsOk (as_many at lists.first lists.ninth)
-    → sums_of at lists.first ≡ Ok ids → sums_of at lists.eighth ≡ Ok lats → sums_of at lists.ninth ≡ Ok lons → dense_of table scale at lists ≡ nodes_read table scale at ids lats lons lists.tenth
-unfolding dense_of nodes_read
-dense-nodes table scale at lists ids lats lons even_lats even_lons e f g =
-    past_one (as_many at lists.first lists.eighth) (as_many at lists.first lists.ninth >>= λ x. groups_of at (length lists.first) lists.tenth >>= λ gs. sums_of at lists.first >>= λ x. sums_of at lists.eighth >>= λ y. sums_of at lists.ninth >>= λ z. grouped_nodes table scale at gs x y z) even_lats
-    ∙ past_one (as_many at lists.first lists.ninth) (groups_of at (length lists.first) lists.tenth >>= λ gs. sums_of at lists.first >>= λ x. sums_of at lists.eighth >>= λ y. sums_of at lists.ninth >>= λ z. grouped_nodes table scale at gs x y z) even_lons
-    ∙ summed_each (groups_of at (length lists.first) lists.tenth) (sums_of at lists.first) (sums_of at lists.eighth) (sums_of at lists.ninth) ids lats lons (λ gs x y z. grouped_nodes table scale at gs x y z) e f g
-    ∙ same_groups at (length lists.first) (length ids) lists.tenth (λ gs. grouped_nodes table scale at gs ids lats lons) (sym (sums-length at lists.first ids e))
+pub dense-nodes : (table : List (List ℕ)) (scale : Scale) (at : ℕ) (raw : DenseNumbers) (ids lats lons : List ℤ) → IsOk (as_many at raw.id raw.lat) → IsOk (as_many at raw.id raw.lon)
+    → sums_of at raw.id ≡ Ok ids → sums_of at raw.lat ≡ Ok lats → sums_of at raw.lon ≡ Ok lons → decoded_dense_nodes table scale at raw ≡ nodes_read table scale at ids lats lons raw.keys_vals
+unfolding decoded_dense_nodes nodes_read
+dense-nodes table scale at raw ids lats lons even_lats even_lons e f g =
+    past_one (as_many at raw.id raw.lat) (as_many at raw.id raw.lon >>= λ x. groups_of at (length raw.id) raw.keys_vals >>= λ gs. sums_of at raw.id >>= λ x. sums_of at raw.lat >>= λ y. sums_of at raw.lon >>= λ z. grouped_nodes table scale at gs x y z) even_lats
+    ∙ past_one (as_many at raw.id raw.lon) (groups_of at (length raw.id) raw.keys_vals >>= λ gs. sums_of at raw.id >>= λ x. sums_of at raw.lat >>= λ y. sums_of at raw.lon >>= λ z. grouped_nodes table scale at gs x y z) even_lons
+    ∙ summed_each (groups_of at (length raw.id) raw.keys_vals) (sums_of at raw.id) (sums_of at raw.lat) (sums_of at raw.lon) ids lats lons (λ gs x y z. grouped_nodes table scale at gs x y z) e f g
+    ∙ same_groups at (length raw.id) (length ids) raw.keys_vals (λ gs. grouped_nodes table scale at gs ids lats lons) (sym (sums-length at raw.id ids e))

@@ -1,4 +1,4 @@
--- A loop over the nodes of a dense message: the nodes so far, the first one that isn't on the earth, and what is left.
+-- A loop over the nodes of a DenseNodes: the nodes so far, the first one that isn't on the earth, and what is left.
 use Rattle.std.proofs.Common.{◌≡◌, ℕ, ◌+◌, ◌<◌, ◌≤◌, ℤ, pos, List, [], ◌∷◌, ◌++◌, length, get_or, drop, Option, Some, None, Result, Ok, Err, IsOk, refl, sym, ap, ◌∙◌, arith, append-nil}
 use Rattle.std.specs.Option.{option_or}
 use Rattle.std.proofs.lemmas.List.{drop_all}

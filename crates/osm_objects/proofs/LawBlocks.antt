@@ -1,5 +1,5 @@
 -- The objects of a block, one after the other.
-use Rattle.std.proofs.Common.{◌≡◌, ◌⊎◌, ◌↔◌, inl, inr, ℕ, Bool, true, false, List, [], ◌∷◌, ◌++◌, length, map, Option, Some, None, Result, Ok, Err, refl, sym, ap, ◌∙◌, subst, append_assoc}
+use Rattle.std.proofs.Common.{◌≡◌, ◌↔◌, inl, inr, ℕ, Bool, true, false, List, [], ◌∷◌, ◌++◌, Option, Some, None, Result, Ok, Err, refl, sym, ap, ◌∙◌, subst, append_assoc}
 use Rattle.std.specs.Prelude.{◌==◌}
 use Rattle.std.specs.List.{AllByRecursion, cons_option}
 use Rattle.std.proofs.lemmas.List.{append-nil}
@@ -9,18 +9,18 @@ use Rattle.wire_read.specs.Fields.{Content, Varint, Fixed64, Bytes, Fixed32, Wir
 use Rattle.osm_messages.specs.declared.fault.MessageFault.{MessageFault}
 use Rattle.osm_messages.specs.declared.kind.ObjectKind.{ObjectKind}
 use Rattle.osm_messages.specs.declared.kind.ObjectKind.TheVariants as kinds
-use Rattle.osm_messages.specs.Numbers.{Shape, shape_of, numbers_in}
+use Rattle.osm_messages.specs.Numbers.{shape_of, numbers_in}
 use Rattle.osm_messages.specs.Groups.{Object}
 use Rattle.osm_messages.specs.Blocks.{Block}
-use Rattle.osm_messages.specs.Lists.{Lists, lists_of, listed}
-use Rattle.osm_messages.specs.Means.{Part, held_part, parts, Together, IsObject, SpellsObject, kind_of, object_by, held_object, objects_in, IsGroup, GivesGroup, IsBlock}
+use Rattle.osm_messages.specs.Lists.{Lists, number_lists, listed_numbers}
+use Rattle.osm_messages.specs.Means.{Part, held_part, parts, Together, IsObject, SpellsObject, kind_of_field, object_by, held_object, objects_of_fields, GivesGroup, IsPrimitiveBlock}
 use Rattle.osm_messages.proofs.Meant.{Each, InBytes, HoldsBytes, holds_bytes}
 use Rattle.osm_objects.specs.declared.fault.ObjectFault.{ObjectFault}
 use Rattle.osm_objects.specs.declared.fault.ObjectFault.TheVariants as faults
 use Rattle.osm_objects.specs.declared.scale.Scale.{Scale}
 use Rattle.osm_objects.specs.Steps.{◌>>=◌}
-use Rattle.osm_objects.specs.Objects.{Objects, no_objects, joined, behind, spelled, lists_in, meaning_of, with_object, with_objects, table_of, objects_of}
-use Rattle.osm_objects.specs.Means.{HeldNumbers, held_by, GivesObjects, AreJoined, units_in, IsObjects}
+use Rattle.osm_objects.specs.Objects.{Objects, no_objects, joined, spelled, lists_in, meaning_of, with_object, with_objects, table_of, objects_of}
+use Rattle.osm_objects.specs.Means.{held_by, GivesObjects, AreJoined, units_in, IsObjects}
 use Rattle.osm_objects.specs.Causes.{IsFirstCause, HasFirstFault, HasNoFault, IsFirstAmong, IsFirstOfBlock}
 use Rattle.osm_objects.proofs.LawParts.{ok_one, err_one, ok_not_err, both_parts, which_part, either_way, then_is, numbered_is}
 use Rattle.osm_objects.proofs.LawKinds.{lists_by, kind_means, kind_meant, first_fault, no_fault, fault_so}
@@ -39,10 +39,10 @@ pub record Legible (object : Object) : Type 0 where
   pub lists : lists_in object ≡ lists_by (held_by numbers)
 
 same_lists : {a b c d e f a' b' c' d' e' f' : List ℕ} → a ≡ a' → b ≡ b' → c ≡ c' → d ≡ d' → e ≡ e' → f ≡ f'
-    → ◌≡◌ {A = Lists} (record { first = a; second = b; third = c; eighth = d; ninth = e; tenth = f }) (record { first = a'; second = b'; third = c'; eighth = d'; ninth = e'; tenth = f' })
+    → ◌≡◌ {A = Lists} (record { field_1 = a; field_2 = b; field_3 = c; field_8 = d; field_9 = e; field_10 = f }) (record { field_1 = a'; field_2 = b'; field_3 = c'; field_8 = d'; field_9 = e'; field_10 = f' })
 same_lists p q r s t u = cc
 
-lists_are : (numbers : List (ℕ × ℕ)) → lists_of numbers ≡ lists_by (held_by numbers)
+lists_are : (numbers : List (ℕ × ℕ)) → number_lists numbers ≡ lists_by (held_by numbers)
 lists_are numbers = same_lists (numbered_is 1 numbers) (numbered_is 2 numbers) (numbered_is 3 numbers) (numbered_is 8 numbers) (numbered_is 9 numbers) (numbered_is 10 numbers)
 
 legible : NumbersAre → (object : Object) → AreBytes object.bytes → SpellsObject object → Legible object
@@ -53,7 +53,7 @@ legible law object are (numbers, spells) =
       numbers = numbers;
       spells = spells;
       one = λ others also. inside others numbers (sym ((law object.kind object.at object.bytes are others).1 also) ∙ so);
-      lists = ap (λ r. spelled (listed r)) so ∙ lists_are numbers;
+      lists = ap (λ r. spelled (listed_numbers r)) so ∙ lists_are numbers;
     }
   where
     inside : (a b : List (ℕ × ℕ)) → ◌≡◌ {A = Result (List (ℕ × ℕ)) MessageFault} (Ok a) (Ok b) → a ≡ b
@@ -179,7 +179,7 @@ fault_all table scale objects so before f first =
 abbrev AreObjectBytes : Object → Type 0
 AreObjectBytes object = AreBytes object.bytes
 
-bytes_of_objects : (fields : List WireField) → Each HoldsBytes fields → AllByRecursion AreObjectBytes (objects_in fields)
+bytes_of_objects : (fields : List WireField) → Each HoldsBytes fields → AllByRecursion AreObjectBytes (objects_of_fields fields)
 bytes_of_objects [] each = tt
 bytes_of_objects (field ∷ fields) (here, each) = by field.content here (bytes_of_objects fields each)
   where
@@ -187,10 +187,10 @@ bytes_of_objects (field ∷ fields) (here, each) = by field.content here (bytes_
     with_kind None bytes are others all = all
     with_kind (Some kind) bytes are others all = (are, all)
 
-    by : (content : Content) → InBytes content → AllByRecursion AreObjectBytes (objects_in fields) → AllByRecursion AreObjectBytes (cons_option (held_object field.number field.body_at content) (objects_in fields))
+    by : (content : Content) → InBytes content → AllByRecursion AreObjectBytes (objects_of_fields fields) → AllByRecursion AreObjectBytes (cons_option (held_object field.number field.body_at content) (objects_of_fields fields))
     by (Varint n) are all = all
     by (Fixed64 n) are all = all
-    by (Bytes bytes) are all = with_kind (kind_of field.number) bytes are (objects_in fields) all
+    by (Bytes bytes) are all = with_kind (kind_of_field field.number) bytes are (objects_of_fields fields) all
     by (Fixed32 n) are all = all
 
 abbrev ArePartBytes : Part → Type 0
@@ -226,7 +226,7 @@ groups_legible law [] objects are none = subst AllLegible (sym none) tt
 groups_legible law (part ∷ ps) objects are (given, others, gives, whole, rest) =
     subst AllLegible (sym whole) (all_append Legible given others (group_legible law part given are.0 gives) (groups_legible law ps others are.1 rest))
 
-block_legible : NumbersAre → (at : ℕ) (bytes : List ℕ) → AreBytes bytes → (block : Block) → IsBlock at bytes block → AllLegible block.objects
+block_legible : NumbersAre → (at : ℕ) (bytes : List ℕ) → AreBytes bytes → (block : Block) → IsPrimitiveBlock at bytes block → AllLegible block.objects
 block_legible law at bytes are block is = groups_legible law (parts 2 is.fields) block.objects (bytes_of_parts 2 is.fields (holds_bytes bytes at is.fields are is.spells)) is.groups
 
 -- ---- a block
@@ -237,7 +237,7 @@ some_same x y e = cc
 none_some : {A : Type 0} (x : A) → ◌≡◌ {A = Option A} None (Some x) → ⊥
 none_some x e = cc
 
-pub block_objects : NumbersAre → (at : ℕ) (bytes : List ℕ) → AreBytes bytes → (block : Block) → IsBlock at bytes block → (objects : Objects) → (objects_of at block ≡ Ok objects) ↔ IsObjects block objects
+pub block_objects : NumbersAre → (at : ℕ) (bytes : List ℕ) → AreBytes bytes → (block : Block) → IsPrimitiveBlock at bytes block → (objects : Objects) → (objects_of at block ≡ Ok objects) ↔ IsObjects block objects
 unfolding objects_of
 block_objects law at bytes are block is objects = (by block.texts refl, back)
   where
@@ -256,7 +256,7 @@ block_objects law at bytes are block is objects = (by block.texts refl, back)
         ∙ all_meant means.table (units_in block) block.objects so no_objects objects means.joined
         ∙ ap (λ o. Ok o) (none_joined objects)
 
-pub block_fault : NumbersAre → (at : ℕ) (bytes : List ℕ) → AreBytes bytes → (block : Block) → IsBlock at bytes block → (fault : ObjectFault) → (objects_of at block ≡ Err fault) ↔ IsFirstOfBlock at block fault
+pub block_fault : NumbersAre → (at : ℕ) (bytes : List ℕ) → AreBytes bytes → (block : Block) → IsPrimitiveBlock at bytes block → (fault : ObjectFault) → (objects_of at block ≡ Err fault) ↔ IsFirstOfBlock at block fault
 unfolding objects_of
 block_fault law at bytes are block is fault = (by block.texts refl, back)
   where

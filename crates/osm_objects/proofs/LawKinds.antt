@@ -1,12 +1,13 @@
 -- Each kind of object: what its numbers give is what they mean, and its fault is that of the first cause.
-use Rattle.std.proofs.Common.{◌≡◌, ◌≢◌, ◌⊎◌, inl, inr, ℕ, zero, suc, ◌+◌, ◌<◌, ◌≤◌, ℤ, List, [], ◌∷◌, ◌++◌, map, length, Option, Some, None, Result, Ok, Err, refl, sym, ap, ◌∙◌, subst, arith}
+use Rattle.std.proofs.Common.{◌≡◌, inl, inr, ℕ, zero, suc, ◌+◌, ◌<◌, ◌≤◌, ℤ, List, [], ◌∷◌, ◌++◌, map, length, Option, Some, None, Ok, Err, refl, sym, ap, ◌∙◌, subst, arith}
 use Rattle.std.specs.Prelude.{slice_get}
 use Rattle.std.specs.Int.{w64, cast_signed}
-use Rattle.std.specs.List.{AllByRecursion, AllZip}
+use Rattle.std.specs.List.{AllZip}
 use Rattle.wire_read.specs.ZigZag.{unzigzag_of}
 use Rattle.osm_messages.specs.declared.kind.ObjectKind.{ObjectKind}
 use Rattle.osm_messages.specs.declared.kind.ObjectKind.TheVariants as kinds
 use Rattle.osm_messages.specs.Lists.{Lists}
+use Rattle.osm_messages.specs.RawNumbers.{node_numbers, dense_numbers, way_numbers, relation_numbers}
 use Rattle.osm_model.specs.declared.tags.Tag.{Tag}
 use Rattle.osm_model.specs.declared.nodes.OsmNode.{OsmNode}
 use Rattle.osm_model.specs.declared.ways.OsmWay.{OsmWay}
@@ -23,21 +24,21 @@ use Rattle.osm_objects.specs.Sums.{sums_of}
 use Rattle.osm_objects.specs.Tags.{text_at, tags_of}
 use Rattle.osm_objects.specs.Groups.{groups_of}
 use Rattle.osm_objects.specs.Coordinates.{node_at}
-use Rattle.osm_objects.specs.Nodes.{node_of, nodes_at, grouped_nodes, dense_of}
-use Rattle.osm_objects.specs.Ways.{way_of}
-use Rattle.osm_objects.specs.Relations.{kind_of, members_of, relation_of}
+use Rattle.osm_objects.specs.Nodes.{decoded_node, nodes_at, grouped_nodes, decoded_dense_nodes}
+use Rattle.osm_objects.specs.Ways.{decoded_way}
+use Rattle.osm_objects.specs.Relations.{member_kind_of, members_of, decoded_relation}
 use Rattle.osm_objects.specs.Objects.{Objects, just_nodes, just_ways, just_relations, meaning_of}
-use Rattle.osm_objects.specs.Means.{HeldNumbers, IsLastOf, HoldsOfOne, sum_at, AreSums, IsUtf8Text, ArePairs, AreGroups, AreTags, IsNodeAt, MeansNode, DenseRow, MeansRow, MeansDense, MeansWay, type_of, MeansRelation, MeansObject}
-use Rattle.osm_objects.specs.Causes.{ObjectCause, Lacks, IsOdd, IsPast, NoText, NoPlace, rank_of, fault_of, index_of, HasBadName, IsFirstCause, IsNeeded, IsUneven, IsBadNumber, HasBadSum, NamedText, RoleText, tag_names, role_names, pairs_in, AreNames, IsOffEarth, IsMisplaced, IsOneOff, IsRowOff, IsCauseIn}
-use Rattle.osm_objects.proofs.LawParts.{either_way, ok_one, err_one, ok_not_err, both_parts, which_part, then_is, one_ok, one_is, one_bad, some_last, many_ok, many_is, many_bad, pairs_even, pairs_ok, pairs_is, pairs_bad, sums_ok, sums_is, sums_bad, no_bad_sum, same_items, Groups, groups_ok, groups_is, groups_bad}
-use Rattle.osm_objects.proofs.LawNames.{NoneBad, FirstBad, ReadsNames, reads_then, reads_none, reads_end, text_ok, text_is, tags_ok, tags_is, tags_read, groups_read, role_read}
-use Rattle.osm_objects.proofs.LawPlaces.{node_way, node_ok, node_fault, node_so, not_off, ids_of, lats_of, lons_of, groups_of_rows, IsOff, FirstOff, rows_ok, rows_bad, rows_is}
+use Rattle.osm_objects.specs.Means.{HeldNumbers, IsLastOf, HoldsOfOne, sum_at, AreSums, IsUtf8Text, ArePairs, AreGroups, MeansNode, DenseRow, MeansDenseNodes, MeansWay, type_of, MeansRelation, MeansObject}
+use Rattle.osm_objects.specs.Causes.{ObjectCause, Lacks, IsOdd, IsPast, NoText, NoPlace, rank_of, fault_of, index_of, HasBadName, IsFirstCause, IsNeeded, IsUneven, IsBadNumber, NamedText, RoleText, tag_names, role_names, pairs_in, AreNames, IsOffEarth, IsMisplaced, IsRowOff, IsCauseIn}
+use Rattle.osm_objects.proofs.LawParts.{either_way, ok_one, err_one, ok_not_err, both_parts, which_part, then_is, one_ok, one_is, one_bad, some_last, many_ok, many_is, many_bad, pairs_even, pairs_ok, pairs_is, pairs_bad, sums_ok, sums_is, sums_bad, no_bad_sum, Groups, groups_ok, groups_is, groups_bad}
+use Rattle.osm_objects.proofs.LawNames.{ReadsNames, reads_then, reads_none, reads_end, text_ok, text_is, tags_ok, tags_is, tags_read, groups_read, role_read}
+use Rattle.osm_objects.proofs.LawPlaces.{node_way, node_ok, node_fault, node_so, not_off, ids_of, lats_of, lons_of, groups_of_rows, IsOff, rows_ok, rows_bad, rows_is}
 use Rattle.osm_objects.proofs.LawRanks.{DecidesFrom, same_rank, from_zero, step_first, step_over, step_end, step_value, at_part, not_before, none_at}
 use Rattle.osm_objects.proofs.LawFirst.{lacks_first, over_lacks, odd_first, over_odd, past_first, over_past, name_first, over_names, place_first, no_place}
 
 -- the lists of the numbers of each field
 abbrev pub lists_by : HeldNumbers → Lists
-lists_by held = record { first = held 1; second = held 2; third = held 3; eighth = held 8; ninth = held 9; tenth = held 10 }
+lists_by held = record { field_1 = held 1; field_2 = held 2; field_3 = held 3; field_8 = held 8; field_9 = held 9; field_10 = held 10 }
 
 -- ---- what there is one of
 
@@ -52,8 +53,8 @@ one_last xs a b p q = ok_one a b (sym (one_is 0 0 xs a p) ∙ one_is 0 0 xs b q)
 
 -- ---- nodes
 
-node_means : (table : List (List ℕ)) (scale : Scale) (at : ℕ) (held : HeldNumbers) (node : OsmNode) → node_of table scale at (lists_by held) ≡ Ok node → MeansNode table scale held node
-unfolding node_of
+node_means : (table : List (List ℕ)) (scale : Scale) (at : ℕ) (held : HeldNumbers) (node : OsmNode) → decoded_node table scale at (node_numbers (lists_by held)) ≡ Ok node → MeansNode table scale held node
+unfolding decoded_node
 node_means table scale at held node e =
     let a = both_parts (one_number at 1 (held 1)) _ node e in
     let b = both_parts (one_number at 8 (held 8)) _ node a.2 in
@@ -74,8 +75,8 @@ node_means table scale at held node e =
       is = n.1;
     }
 
-node_meant : (table : List (List ℕ)) (scale : Scale) (at : ℕ) (held : HeldNumbers) (node : OsmNode) → MeansNode table scale held node → node_of table scale at (lists_by held) ≡ Ok node
-unfolding node_of
+node_meant : (table : List (List ℕ)) (scale : Scale) (at : ℕ) (held : HeldNumbers) (node : OsmNode) → MeansNode table scale held node → decoded_node table scale at (node_numbers (lists_by held)) ≡ Ok node
+unfolding decoded_node
 node_meant table scale at held node m =
     then_is (one_number at 1 (held 1)) m.id _ node (one_is at 1 (held 1) m.id m.has_id)
     (then_is (one_number at 8 (held 8)) m.lat _ node (one_is at 8 (held 8) m.lat m.has_lat)
@@ -84,8 +85,8 @@ node_meant table scale at held node m =
     (then_is (tags_of table at m.pairs) node.tags _ node (tags_is table at m.pairs node.tags m.tags)
     (node_so scale (unzigzag_of m.id) (unzigzag_of m.lat) (unzigzag_of m.lon) node m.is)))))
 
-node_decides : (table : List (List ℕ)) (scale : Scale) (at : ℕ) (held : HeldNumbers) → DecidesFrom (IsCauseIn table scale kinds.Node held) at (0, 0) (node_of table scale at (lists_by held))
-unfolding node_of
+node_decides : (table : List (List ℕ)) (scale : Scale) (at : ℕ) (held : HeldNumbers) → DecidesFrom (IsCauseIn table scale kinds.Node held) at (0, 0) (decoded_node table scale at (node_numbers (lists_by held)))
+unfolding decoded_node
 node_decides table scale at held =
     step_first In at (0, 0) (one_number at 1 (held 1)) _ (λ f e. let b = one_bad at 1 (held 1) f e in lacks_first table scale kinds.Node held at f 1 b.0 (inl refl) b.1 (λ n needed none. first_least n needed))
     (λ id id_is. step_first In at (0, 0) (one_number at 8 (held 8)) _
@@ -153,8 +154,8 @@ node_decides table scale at held =
 
 -- ---- ways
 
-way_means : (table : List (List ℕ)) (at : ℕ) (held : HeldNumbers) (way : OsmWay) → way_of table at (lists_by held) ≡ Ok way → MeansWay table held way
-unfolding way_of
+way_means : (table : List (List ℕ)) (at : ℕ) (held : HeldNumbers) (way : OsmWay) → decoded_way table at (way_numbers (lists_by held)) ≡ Ok way → MeansWay table held way
+unfolding decoded_way
 way_means table at held way e =
     let a = both_parts (one_number at 1 (held 1)) _ way e in
     let p = both_parts (pairs_of at (held 2) (held 3)) _ way a.2 in
@@ -171,8 +172,8 @@ way_means table at held way e =
       refs = sums_ok at (held 8) r.0 r.1;
     })
 
-way_meant : (table : List (List ℕ)) (at : ℕ) (held : HeldNumbers) (way : OsmWay) → MeansWay table held way → way_of table at (lists_by held) ≡ Ok way
-unfolding way_of
+way_meant : (table : List (List ℕ)) (at : ℕ) (held : HeldNumbers) (way : OsmWay) → MeansWay table held way → decoded_way table at (way_numbers (lists_by held)) ≡ Ok way
+unfolding decoded_way
 way_meant table at held way m =
     then_is (one_number at 1 (held 1)) m.id _ way (one_is at 1 (held 1) m.id m.has_id)
     (then_is (pairs_of at (held 2) (held 3)) m.pairs _ way (pairs_is at (held 2) (held 3) m.pairs m.has_pairs)
@@ -180,8 +181,8 @@ way_meant table at held way m =
     (then_is (tags_of table at m.pairs) way.tags _ way (tags_is table at m.pairs way.tags m.tags)
     (ap (λ (i : ℤ). Ok (record way { id = i })) (sym m.id_is)))))
 
-way_decides : (table : List (List ℕ)) (scale : Scale) (at : ℕ) (held : HeldNumbers) → DecidesFrom (IsCauseIn table scale kinds.Way held) at (0, 0) (way_of table at (lists_by held))
-unfolding way_of
+way_decides : (table : List (List ℕ)) (scale : Scale) (at : ℕ) (held : HeldNumbers) → DecidesFrom (IsCauseIn table scale kinds.Way held) at (0, 0) (decoded_way table at (way_numbers (lists_by held)))
+unfolding decoded_way
 way_decides table scale at held =
     step_first In at (0, 0) (one_number at 1 (held 1)) _ (λ f e. let b = one_bad at 1 (held 1) f e in lacks_first table scale kinds.Way held at f 1 b.0 refl b.1 (λ n needed none. omega arith))
     (λ id id_is. step_over In at (0, 0) (1, 0) _ (over_lacks table scale kinds.Way held at (λ n needed none. some_last (held 1) id (one_ok at 1 (held 1) id id_is) (ap held (sym needed) ∙ none)))
@@ -201,46 +202,46 @@ way_decides table scale at held =
 
 -- ---- members
 
-type_of_nodes : (at : ℕ) (k : MemberKind) → kind_of at 0 ≡ Ok k → 0 ≡ type_of k
+type_of_nodes : (at : ℕ) (k : MemberKind) → member_kind_of at 0 ≡ Ok k → 0 ≡ type_of k
 type_of_nodes at k e = ap type_of (ok_one members.Node k e)
 
-type_of_ways : (at : ℕ) (k : MemberKind) → kind_of at 1 ≡ Ok k → 1 ≡ type_of k
+type_of_ways : (at : ℕ) (k : MemberKind) → member_kind_of at 1 ≡ Ok k → 1 ≡ type_of k
 type_of_ways at k e = ap type_of (ok_one members.Way k e)
 
-type_ok : (at n : ℕ) (k : MemberKind) → kind_of at n ≡ Ok k → n ≡ type_of k
+type_ok : (at n : ℕ) (k : MemberKind) → member_kind_of at n ≡ Ok k → n ≡ type_of k
 type_ok at zero k e = type_of_nodes at k e
 type_ok at (suc zero) k e = type_of_ways at k e
 type_ok at (suc (suc zero)) k e = ap type_of (ok_one members.Relation k e)
 type_ok at (suc (suc (suc n))) k e = absurd (ok_not_err k (faults.Uneven at) (sym e))
 
-types_ok : (at : ℕ) (types : List ℕ) (ks : List MemberKind) → each (kind_of at) types ≡ Ok ks → types ≡ map type_of ks
+types_ok : (at : ℕ) (types : List ℕ) (ks : List MemberKind) → each (member_kind_of at) types ≡ Ok ks → types ≡ map type_of ks
 types_ok at [] ks e = ap (map type_of) (ok_one [] ks e)
 types_ok at (n ∷ ns) ks e =
-    let a = both_parts (kind_of at n) (λ y. each (kind_of at) ns >>= λ ys. Ok (y ∷ ys)) ks e in
-    let b = both_parts (each (kind_of at) ns) (λ ys. Ok (a.0 ∷ ys)) ks a.2 in
+    let a = both_parts (member_kind_of at n) (λ y. each (member_kind_of at) ns >>= λ ys. Ok (y ∷ ys)) ks e in
+    let b = both_parts (each (member_kind_of at) ns) (λ ys. Ok (a.0 ∷ ys)) ks a.2 in
     ap (λ m. m ∷ ns) (type_ok at n a.0 a.1) ∙ ap (λ l. type_of a.0 ∷ l) (types_ok at ns b.0 b.1) ∙ ap (map type_of) (ok_one (a.0 ∷ b.0) ks b.2)
 
-types_is : (at : ℕ) (ks : List MemberKind) → each (kind_of at) (map type_of ks) ≡ Ok ks
+types_is : (at : ℕ) (ks : List MemberKind) → each (member_kind_of at) (map type_of ks) ≡ Ok ks
 types_is at [] = refl
-types_is at (k ∷ ks) = then_is (kind_of at (type_of k)) k (λ y. each (kind_of at) (map type_of ks) >>= λ ys. Ok (y ∷ ys)) (k ∷ ks) (one k) (then_is (each (kind_of at) (map type_of ks)) ks (λ ys. Ok (k ∷ ys)) (k ∷ ks) (types_is at ks) refl)
+types_is at (k ∷ ks) = then_is (member_kind_of at (type_of k)) k (λ y. each (member_kind_of at) (map type_of ks) >>= λ ys. Ok (y ∷ ys)) (k ∷ ks) (one k) (then_is (each (member_kind_of at) (map type_of ks)) ks (λ ys. Ok (k ∷ ys)) (k ∷ ks) (types_is at ks) refl)
   where
-    one : (k : MemberKind) → kind_of at (type_of k) ≡ Ok k
+    one : (k : MemberKind) → member_kind_of at (type_of k) ≡ Ok k
     one members.Node = refl
     one members.Way = refl
     one members.Relation = refl
 
-types_bad : (at : ℕ) (types : List ℕ) (f : ObjectFault) → each (kind_of at) types ≡ Err f → (f ≡ faults.Uneven at) × HoldsOfOne (λ (type : ℕ). 2 < type) types
+types_bad : (at : ℕ) (types : List ℕ) (f : ObjectFault) → each (member_kind_of at) types ≡ Err f → (f ≡ faults.Uneven at) × HoldsOfOne (λ (type : ℕ). 2 < type) types
 types_bad at [] f e = absurd (ok_not_err [] f e)
 types_bad at (n ∷ ns) f e =
-    elim (which_part (kind_of at n) (λ y. each (kind_of at) ns >>= λ ys. Ok (y ∷ ys)) f e) [
+    elim (which_part (member_kind_of at n) (λ y. each (member_kind_of at) ns >>= λ ys. Ok (y ∷ ys)) f e) [
       | inl h ↦ (let b = one n h in (b.0, inl b.1))
-      | inr a ↦ elim (which_part (each (kind_of at) ns) (λ ys. Ok (a.0 ∷ ys)) f a.2) [
+      | inr a ↦ elim (which_part (each (member_kind_of at) ns) (λ ys. Ok (a.0 ∷ ys)) f a.2) [
         | inl h ↦ (let b = types_bad at ns f h in (b.0, inr b.1))
         | inr b ↦ absurd (ok_not_err (a.0 ∷ b.0) f b.2)
       ]
     ]
   where
-    one : (n : ℕ) → kind_of at n ≡ Err f → (f ≡ faults.Uneven at) × (2 < n)
+    one : (n : ℕ) → member_kind_of at n ≡ Err f → (f ≡ faults.Uneven at) × (2 < n)
     one zero e = absurd (ok_not_err members.Node f e)
     one (suc zero) e = absurd (ok_not_err members.Way f e)
     one (suc (suc zero)) e = absurd (ok_not_err members.Relation f e)
@@ -312,14 +313,14 @@ zip_length table (r ∷ rs) (m ∷ ms) zip = ap suc (zip_length table rs ms zip.
 
 -- ---- relations
 
-relation_means : (table : List (List ℕ)) (at : ℕ) (held : HeldNumbers) (relation : OsmRelation) → relation_of table at (lists_by held) ≡ Ok relation → MeansRelation table held relation
-unfolding relation_of
+relation_means : (table : List (List ℕ)) (at : ℕ) (held : HeldNumbers) (relation : OsmRelation) → decoded_relation table at (relation_numbers (lists_by held)) ≡ Ok relation → MeansRelation table held relation
+unfolding decoded_relation
 relation_means table at held relation e =
     let a = both_parts (one_number at 1 (held 1)) _ relation e in
     let p = both_parts (pairs_of at (held 2) (held 3)) _ relation a.2 in
     let ev = both_parts (as_many at (held 8) (held 9)) _ relation p.2 in
     let ew = both_parts (as_many at (held 8) (held 10)) _ relation ev.2 in
-    let k = both_parts (each (kind_of at) (held 10)) _ relation ew.2 in
+    let k = both_parts (each (member_kind_of at) (held 10)) _ relation ew.2 in
     let i = both_parts (sums_of at (held 9)) _ relation k.2 in
     let t = both_parts (tags_of table at p.0) _ relation i.2 in
     let m = both_parts (members_of table at (held 8) i.0 k.0) _ relation t.2 in
@@ -341,8 +342,8 @@ relation_means table at held relation e =
       types = types ∙ ap (map type_of) (sym ms.2) ∙ mapped_twice m.0;
     })
 
-relation_meant : (table : List (List ℕ)) (at : ℕ) (held : HeldNumbers) (relation : OsmRelation) → MeansRelation table held relation → relation_of table at (lists_by held) ≡ Ok relation
-unfolding relation_of
+relation_meant : (table : List (List ℕ)) (at : ℕ) (held : HeldNumbers) (relation : OsmRelation) → MeansRelation table held relation → decoded_relation table at (relation_numbers (lists_by held)) ≡ Ok relation
+unfolding decoded_relation
 relation_meant table at held relation m =
     let ids = map (λ (member : Member). member.id) relation.members in
     let ks = map (λ (member : Member). member.kind) relation.members in
@@ -354,21 +355,21 @@ relation_meant table at held relation m =
     (then_is (pairs_of at (held 2) (held 3)) m.pairs _ relation (pairs_is at (held 2) (held 3) m.pairs m.has_pairs)
     (then_is (as_many at (held 8) (held 9)) tt _ relation (many_is at (held 8) (held 9) ids_many)
     (then_is (as_many at (held 8) (held 10)) tt _ relation (many_is at (held 8) (held 10) types_many)
-    (then_is (each (kind_of at) (held 10)) ks _ relation (ap (each (kind_of at)) types ∙ types_is at ks)
+    (then_is (each (member_kind_of at) (held 10)) ks _ relation (ap (each (member_kind_of at)) types ∙ types_is at ks)
     (then_is (sums_of at (held 9)) ids _ relation (sums_is at (held 9) ids m.ids)
     (then_is (tags_of table at m.pairs) relation.tags _ relation (tags_is table at m.pairs relation.tags m.tags)
     (then_is (members_of table at (held 8) ids ks) relation.members _ relation (members_is table at (held 8) relation.members m.roles)
     (ap (λ (i : ℤ). Ok (record relation { id = i })) (sym m.id_is)))))))))
 
-relation_decides : (table : List (List ℕ)) (scale : Scale) (at : ℕ) (held : HeldNumbers) → DecidesFrom (IsCauseIn table scale kinds.Relation held) at (0, 0) (relation_of table at (lists_by held))
-unfolding relation_of
+relation_decides : (table : List (List ℕ)) (scale : Scale) (at : ℕ) (held : HeldNumbers) → DecidesFrom (IsCauseIn table scale kinds.Relation held) at (0, 0) (decoded_relation table at (relation_numbers (lists_by held)))
+unfolding decoded_relation
 relation_decides table scale at held =
     step_first In at (0, 0) (one_number at 1 (held 1)) _ (λ f e. let b = one_bad at 1 (held 1) f e in lacks_first table scale kinds.Relation held at f 1 b.0 refl b.1 (λ n needed none. omega arith))
     (λ id id_is. step_over In at (0, 0) (1, 0) _ (over_lacks table scale kinds.Relation held at (λ n needed none. some_last (held 1) id (one_ok at 1 (held 1) id id_is) (ap held (sym needed) ∙ none)))
     (step_first In at (1, 0) (pairs_of at (held 2) (held 3)) _ (λ f e. let b = pairs_bad at (held 2) (held 3) f e in odd_first table scale kinds.Relation held at f b.0 (inl b.1))
     (λ pairs pairs_are. step_first In at (1, 0) (as_many at (held 8) (held 9)) _ (λ f e. let b = many_bad at (held 8) (held 9) f e in odd_first table scale kinds.Relation held at f b.0 (inr (inl b.1)))
     (λ u ids_even. step_first In at (1, 0) (as_many at (held 8) (held 10)) _ (λ f e. let b = many_bad at (held 8) (held 10) f e in odd_first table scale kinds.Relation held at f b.0 (inr (inr (inl b.1))))
-    (λ v types_even. step_first In at (1, 0) (each (kind_of at) (held 10)) _ (λ f e. let b = types_bad at (held 10) f e in odd_first table scale kinds.Relation held at f b.0 (inr (inr (inr b.1))))
+    (λ v types_even. step_first In at (1, 0) (each (member_kind_of at) (held 10)) _ (λ f e. let b = types_bad at (held 10) f e in odd_first table scale kinds.Relation held at f b.0 (inr (inr (inr b.1))))
     (λ ks types_are. step_over In at (1, 0) (2, 0) _ (over_odd table scale kinds.Relation held at (not_odd pairs pairs_are u ids_even v types_even ks types_are))
     (step_first In at (2, 0) (sums_of at (held 9)) _ (λ f e. let b = sums_bad at (held 9) f e in past_first table scale kinds.Relation held at f b.0 b.1)
     (λ ids ids_are. step_over In at (2, 0) (3, 0) _ (over_past table scale kinds.Relation held at (no_bad_sum (held 9) ids (sums_ok at (held 9) ids ids_are)))
@@ -386,7 +387,7 @@ relation_decides table scale at held =
     all_names : List (ℕ × ℕ) → List NamedText
     all_names pairs = tag_names pairs ++ role_names (held 8)
 
-    not_odd : (pairs : List (ℕ × ℕ)) → pairs_of at (held 2) (held 3) ≡ Ok pairs → (u : Unit {0}) → as_many at (held 8) (held 9) ≡ Ok u → (v : Unit {0}) → as_many at (held 8) (held 10) ≡ Ok v → (ks : List MemberKind) → each (kind_of at) (held 10) ≡ Ok ks → IsUneven kinds.Relation held → ⊥
+    not_odd : (pairs : List (ℕ × ℕ)) → pairs_of at (held 2) (held 3) ≡ Ok pairs → (u : Unit {0}) → as_many at (held 8) (held 9) ≡ Ok u → (v : Unit {0}) → as_many at (held 8) (held 10) ≡ Ok v → (ks : List MemberKind) → each (member_kind_of at) (held 10) ≡ Ok ks → IsUneven kinds.Relation held → ⊥
     not_odd pairs p u i v t ks k (inl odd) = odd (pairs_even (held 2) (held 3) pairs (pairs_ok at (held 2) (held 3) pairs p))
     not_odd pairs p u i v t ks k (inr (inl odd)) = odd (many_ok at (held 8) (held 9) u i)
     not_odd pairs p u i v t ks k (inr (inr (inl odd))) = odd (many_ok at (held 8) (held 10) v t)
@@ -395,14 +396,14 @@ relation_decides table scale at held =
     names_one : (pairs : List (ℕ × ℕ)) → pairs_of at (held 2) (held 3) ≡ Ok pairs → (others : List NamedText) → AreNames kinds.Relation held others → others ≡ all_names pairs
     names_one pairs e others (also, are, is) = is ∙ ap all_names (one_pairs (held 2) (held 3) also pairs are (pairs_ok at (held 2) (held 3) pairs e))
 
-    names_read : (pairs : List (ℕ × ℕ)) (u : Unit {0}) → as_many at (held 8) (held 9) ≡ Ok u → (v : Unit {0}) → as_many at (held 8) (held 10) ≡ Ok v → (ks : List MemberKind) → each (kind_of at) (held 10) ≡ Ok ks → (ids : List ℤ) → sums_of at (held 9) ≡ Ok ids → (id : ℤ)
+    names_read : (pairs : List (ℕ × ℕ)) (u : Unit {0}) → as_many at (held 8) (held 9) ≡ Ok u → (v : Unit {0}) → as_many at (held 8) (held 10) ≡ Ok v → (ks : List MemberKind) → each (member_kind_of at) (held 10) ≡ Ok ks → (ids : List ℤ) → sums_of at (held 9) ≡ Ok ids → (id : ℤ)
         → ReadsNames {A = OsmRelation} table at (all_names pairs) (tags_of table at pairs >>= λ tags. members_of table at (held 8) ids ks >>= λ ms. Ok (record { id = id; tags = tags; members = ms }))
     names_read pairs u i v t ks k ids s id =
         reads_then table at (tag_names pairs) (role_names (held 8)) (tags_of table at pairs) _ (tags_read table at pairs)
         (λ tags e. reads_end table at (role_names (held 8)) (members_of table at (held 8) ids ks) _
         (members_read table at (held 8) ids ks (many_ok at (held 8) (held 9) u i ∙ sym (sums_ok at (held 9) ids s).many) (many_ok at (held 8) (held 10) v t ∙ ap (λ l. length l) (types_ok at (held 10) ks k) ∙ mapped_length type_of ks)))
 
--- ---- dense messages
+-- ---- DenseNodes
 
 -- rows of four lists of one length
 record RowsOf (ids lats lons : List ℤ) (groups : Groups) : Type 0 where
@@ -430,7 +431,7 @@ rows_by (i ∷ is) (x ∷ xs) (z ∷ zs) (g ∷ gs) p q r =
       groups_are = ap (λ l. g ∷ l) more.groups_are;
     }
 
--- what has been seen of a dense message, before its texts
+-- what has been seen of a DenseNodes, before its texts
 record DenseParts (at : ℕ) (held : HeldNumbers) (groups : Groups) (ids lats lons : List ℤ) : Type 0 where
   lats_even : length (held 1) ≡ length (held 8)
   lons_even : length (held 1) ≡ length (held 9)
@@ -465,8 +466,8 @@ record DenseChain (table : List (List ℕ)) (scale : Scale) (at : ℕ) (held : H
   parts : DenseParts at held groups ids lats lons
   nodes_so : grouped_nodes table scale at groups ids lats lons ≡ Ok nodes
 
-dense_chain : (table : List (List ℕ)) (scale : Scale) (at : ℕ) (held : HeldNumbers) (nodes : List OsmNode) → dense_of table scale at (lists_by held) ≡ Ok nodes → DenseChain table scale at held nodes
-unfolding dense_of
+dense_chain : (table : List (List ℕ)) (scale : Scale) (at : ℕ) (held : HeldNumbers) (nodes : List OsmNode) → decoded_dense_nodes table scale at (dense_numbers (lists_by held)) ≡ Ok nodes → DenseChain table scale at held nodes
+unfolding decoded_dense_nodes
 dense_chain table scale at held nodes e =
     let a = both_parts (as_many at (held 1) (held 8)) _ nodes e in
     let b = both_parts (as_many at (held 1) (held 9)) _ nodes a.2 in
@@ -483,7 +484,7 @@ dense_chain table scale at held nodes e =
       nodes_so = z.2;
     }
 
-dense_means : (table : List (List ℕ)) (scale : Scale) (at : ℕ) (held : HeldNumbers) (nodes : List OsmNode) → dense_of table scale at (lists_by held) ≡ Ok nodes → MeansDense table scale held nodes
+dense_means : (table : List (List ℕ)) (scale : Scale) (at : ℕ) (held : HeldNumbers) (nodes : List OsmNode) → decoded_dense_nodes table scale at (dense_numbers (lists_by held)) ≡ Ok nodes → MeansDenseNodes table scale held nodes
 dense_means table scale at held nodes e =
     let chain = dense_chain table scale at held nodes e in
     let rows = dense_rows at held chain.groups chain.ids chain.lats chain.lons chain.parts in
@@ -497,8 +498,8 @@ dense_means table scale at held nodes e =
       gives = (rows_ok table scale at rows.rows n.0 nodes n.1 n.2).0;
     }
 
-dense_meant : (table : List (List ℕ)) (scale : Scale) (at : ℕ) (held : HeldNumbers) (nodes : List OsmNode) → MeansDense table scale held nodes → dense_of table scale at (lists_by held) ≡ Ok nodes
-unfolding dense_of
+dense_meant : (table : List (List ℕ)) (scale : Scale) (at : ℕ) (held : HeldNumbers) (nodes : List OsmNode) → MeansDenseNodes table scale held nodes → decoded_dense_nodes table scale at (dense_numbers (lists_by held)) ≡ Ok nodes
+unfolding decoded_dense_nodes
 dense_meant table scale at held nodes m =
     let ids = ids_of m.rows in
     let lats = lats_of m.rows in
@@ -543,9 +544,9 @@ some_row (r ∷ rows) (suc place) h = some_row rows place (omega arith)
 
 dense_places : (table : List (List ℕ)) (scale : Scale) (at : ℕ) (held : HeldNumbers) (groups : Groups) (ids lats lons : List ℤ) → DenseParts at held groups ids lats lons → (tag_lists : List (List Tag)) → (rows : RowsOf ids lats lons groups)
     → each (tags_of table at) (groups_of_rows rows.rows) ≡ Ok tag_lists
-    → DecidesFrom (IsCauseIn table scale kinds.Dense held) at (4, 0) (nodes_at scale (ids_of rows.rows) (lats_of rows.rows) (lons_of rows.rows) tag_lists)
+    → DecidesFrom (IsCauseIn table scale kinds.DenseNodes held) at (4, 0) (nodes_at scale (ids_of rows.rows) (lats_of rows.rows) (lons_of rows.rows) tag_lists)
 dense_places table scale at held groups ids lats lons parts tag_lists rows t = record {
-  good = λ nodes e. no_place table scale kinds.Dense held at (λ p i off.
+  good = λ nodes e. no_place table scale kinds.DenseNodes held at (λ p i off.
       let r = row_of p off in
       none_at (IsOff scale) rows.rows r.0 p (rows_ok table scale at rows.rows tag_lists nodes t e).1 r.1 r.2);
   bad = λ f e.
@@ -553,7 +554,7 @@ dense_places table scale at held groups ids lats lons parts tag_lists rows t = r
       let place = length b.before in
       let here : slice_get rows.rows place ≡ Some b.row = ap (λ l. slice_get l place) b.parts ∙ at_part b.before b.row b.after in
       let within : place < length (held 1) = subst (λ n. place < n) lens (below b.before b.row b.after rows.rows b.parts) in
-      place_first table scale kinds.Dense held at f place b.row.id b.fault_is
+      place_first table scale kinds.DenseNodes held at f place b.row.id b.fault_is
       (record {
         within = within;
         id_is = row_at ids (held 1) place b.row.id id_sums within (ap (λ l. slice_get l place) (sym rows.ids_are) ∙ mapped_at (λ (row : DenseRow). row.id) rows.rows place b.row here);
@@ -591,34 +592,34 @@ dense_places table scale at held groups ids lats lons parts tag_lists rows t = r
         let o = row_at lons (held 9) p r.0.lon lon_sums (subst (λ n. p < n) parts.lons_even off.within) (ap (λ l. slice_get l p) (sym rows.lons_are) ∙ mapped_at (λ (row : DenseRow). row.lon) rows.rows p r.0 r.1) in
         (r.0, r.1, subst (λ x. IsOffEarth scale x r.0.lon) (sym a) (subst (λ x. IsOffEarth scale (sum_at p (held 8)) x) (sym o) off.off))
 
-dense_decides : (table : List (List ℕ)) (scale : Scale) (at : ℕ) (held : HeldNumbers) → DecidesFrom (IsCauseIn table scale kinds.Dense held) at (0, 0) (dense_of table scale at (lists_by held))
-unfolding dense_of
+dense_decides : (table : List (List ℕ)) (scale : Scale) (at : ℕ) (held : HeldNumbers) → DecidesFrom (IsCauseIn table scale kinds.DenseNodes held) at (0, 0) (decoded_dense_nodes table scale at (dense_numbers (lists_by held)))
+unfolding decoded_dense_nodes
 dense_decides table scale at held =
-    step_over In at (0, 0) (1, 0) _ (over_lacks table scale kinds.Dense held at (λ n needed none. needed))
-    (step_first In at (1, 0) (as_many at (held 1) (held 8)) _ (λ f e. let b = many_bad at (held 1) (held 8) f e in odd_first table scale kinds.Dense held at f b.0 (inl b.1))
-    (λ u a. step_first In at (1, 0) (as_many at (held 1) (held 9)) _ (λ f e. let b = many_bad at (held 1) (held 9) f e in odd_first table scale kinds.Dense held at f b.0 (inr (inl b.1)))
-    (λ v b. step_first In at (1, 0) (groups_of at (length (held 1)) (held 10)) _ (λ f e. let b = groups_bad at (length (held 1)) (held 10) f e in odd_first table scale kinds.Dense held at f b.0 (inr (inr b.1)))
-    (λ groups g. step_over In at (1, 0) (2, 0) _ (over_odd table scale kinds.Dense held at (not_odd u a v b groups g))
-    (step_first In at (2, 0) (sums_of at (held 1)) _ (λ f e. let b = sums_bad at (held 1) f e in past_first table scale kinds.Dense held at f b.0 (inl b.1))
-    (λ ids i. step_first In at (2, 0) (sums_of at (held 8)) _ (λ f e. let b = sums_bad at (held 8) f e in past_first table scale kinds.Dense held at f b.0 (inr (inl b.1)))
-    (λ lats x. step_first In at (2, 0) (sums_of at (held 9)) _ (λ f e. let b = sums_bad at (held 9) f e in past_first table scale kinds.Dense held at f b.0 (inr (inr b.1)))
-    (λ lons z. step_over In at (2, 0) (3, 0) _ (over_past table scale kinds.Dense held at (not_past ids i lats x lons z))
+    step_over In at (0, 0) (1, 0) _ (over_lacks table scale kinds.DenseNodes held at (λ n needed none. needed))
+    (step_first In at (1, 0) (as_many at (held 1) (held 8)) _ (λ f e. let b = many_bad at (held 1) (held 8) f e in odd_first table scale kinds.DenseNodes held at f b.0 (inl b.1))
+    (λ u a. step_first In at (1, 0) (as_many at (held 1) (held 9)) _ (λ f e. let b = many_bad at (held 1) (held 9) f e in odd_first table scale kinds.DenseNodes held at f b.0 (inr (inl b.1)))
+    (λ v b. step_first In at (1, 0) (groups_of at (length (held 1)) (held 10)) _ (λ f e. let b = groups_bad at (length (held 1)) (held 10) f e in odd_first table scale kinds.DenseNodes held at f b.0 (inr (inr b.1)))
+    (λ groups g. step_over In at (1, 0) (2, 0) _ (over_odd table scale kinds.DenseNodes held at (not_odd u a v b groups g))
+    (step_first In at (2, 0) (sums_of at (held 1)) _ (λ f e. let b = sums_bad at (held 1) f e in past_first table scale kinds.DenseNodes held at f b.0 (inl b.1))
+    (λ ids i. step_first In at (2, 0) (sums_of at (held 8)) _ (λ f e. let b = sums_bad at (held 8) f e in past_first table scale kinds.DenseNodes held at f b.0 (inr (inl b.1)))
+    (λ lats x. step_first In at (2, 0) (sums_of at (held 9)) _ (λ f e. let b = sums_bad at (held 9) f e in past_first table scale kinds.DenseNodes held at f b.0 (inr (inr b.1)))
+    (λ lons z. step_over In at (2, 0) (3, 0) _ (over_past table scale kinds.DenseNodes held at (not_past ids i lats x lons z))
     (last groups ids lats lons (record { lats_even = many_ok at (held 1) (held 8) u a; lons_even = many_ok at (held 1) (held 9) v b; groups_so = g; ids_so = i; lats_so = x; lons_so = z }))))))))))
   where
     In : ObjectCause → Type 0
-    In cause = IsCauseIn table scale kinds.Dense held cause
+    In cause = IsCauseIn table scale kinds.DenseNodes held cause
 
-    not_odd : (u : Unit {0}) → as_many at (held 1) (held 8) ≡ Ok u → (v : Unit {0}) → as_many at (held 1) (held 9) ≡ Ok v → (groups : Groups) → groups_of at (length (held 1)) (held 10) ≡ Ok groups → IsUneven kinds.Dense held → ⊥
+    not_odd : (u : Unit {0}) → as_many at (held 1) (held 8) ≡ Ok u → (v : Unit {0}) → as_many at (held 1) (held 9) ≡ Ok v → (groups : Groups) → groups_of at (length (held 1)) (held 10) ≡ Ok groups → IsUneven kinds.DenseNodes held → ⊥
     not_odd u a v b groups g (inl odd) = odd (many_ok at (held 1) (held 8) u a)
     not_odd u a v b groups g (inr (inl odd)) = odd (many_ok at (held 1) (held 9) v b)
     not_odd u a v b groups g (inr (inr none)) = let is = groups_ok at (length (held 1)) (held 10) groups g in none groups is.0 is.1
 
-    not_past : (ids : List ℤ) → sums_of at (held 1) ≡ Ok ids → (lats : List ℤ) → sums_of at (held 8) ≡ Ok lats → (lons : List ℤ) → sums_of at (held 9) ≡ Ok lons → IsBadNumber kinds.Dense held → ⊥
+    not_past : (ids : List ℤ) → sums_of at (held 1) ≡ Ok ids → (lats : List ℤ) → sums_of at (held 8) ≡ Ok lats → (lons : List ℤ) → sums_of at (held 9) ≡ Ok lons → IsBadNumber kinds.DenseNodes held → ⊥
     not_past ids i lats x lons z (inl bad) = no_bad_sum (held 1) ids (sums_ok at (held 1) ids i) bad
     not_past ids i lats x lons z (inr (inl bad)) = no_bad_sum (held 8) lats (sums_ok at (held 8) lats x) bad
     not_past ids i lats x lons z (inr (inr bad)) = no_bad_sum (held 9) lons (sums_ok at (held 9) lons z) bad
 
-    names_one : (groups : Groups) → groups_of at (length (held 1)) (held 10) ≡ Ok groups → (others : List NamedText) → AreNames kinds.Dense held others → others ≡ tag_names (pairs_in groups)
+    names_one : (groups : Groups) → groups_of at (length (held 1)) (held 10) ≡ Ok groups → (others : List NamedText) → AreNames kinds.DenseNodes held others → others ≡ tag_names (pairs_in groups)
     names_one groups g others (also, are, many, is) =
         let mine = groups_ok at (length (held 1)) (held 10) groups g in
         is ∙ ap (λ gs. tag_names (pairs_in gs)) (one_groups (held 10) (length (held 1)) also groups are mine.0 many mine.1)
@@ -631,49 +632,49 @@ dense_decides table scale at held =
         subst (λ (gs : Groups). ReadsNames table at (tag_names (pairs_in groups)) (each (tags_of table at) gs)) (sym rows.groups_are) (groups_read table at groups) in
         subst (DecidesFrom In at (3, 0)) (sym (by_rows table scale at groups ids lats lons rows))
         (step_first In at (3, 0) (each (tags_of table at) (groups_of_rows rows.rows)) (λ tag_lists. nodes_at scale (ids_of rows.rows) (lats_of rows.rows) (lons_of rows.rows) tag_lists)
-        (λ f e. name_first table scale kinds.Dense held at f (tag_names (pairs_in groups)) (groups, mine.0, mine.1, refl) (names_one groups parts.groups_so) (read.bad f e))
-        (λ tag_lists t. step_over In at (3, 0) (4, 0) _ (over_names table scale kinds.Dense held at (tag_names (pairs_in groups)) (names_one groups parts.groups_so) (read.good tag_lists t))
+        (λ f e. name_first table scale kinds.DenseNodes held at f (tag_names (pairs_in groups)) (groups, mine.0, mine.1, refl) (names_one groups parts.groups_so) (read.bad f e))
+        (λ tag_lists t. step_over In at (3, 0) (4, 0) _ (over_names table scale kinds.DenseNodes held at (tag_names (pairs_in groups)) (names_one groups parts.groups_so) (read.good tag_lists t))
         (dense_places table scale at held groups ids lats lons parts tag_lists rows t)))
 
 -- ---- any object
 
 pub kind_means : (kind : ObjectKind) (table : List (List ℕ)) (scale : Scale) (at : ℕ) (held : HeldNumbers) (given : Objects) → meaning_of kind table scale at (lists_by held) ≡ Ok given → MeansObject kind table scale held given
 kind_means kinds.Node table scale at held given e =
-    let n = both_parts (node_of table scale at (lists_by held)) (λ node. Ok (just_nodes (node ∷ []))) given e in
+    let n = both_parts (decoded_node table scale at (node_numbers (lists_by held))) (λ node. Ok (just_nodes (node ∷ []))) given e in
     (n.0, node_means table scale at held n.0 n.1, sym (ok_one (just_nodes (n.0 ∷ [])) given n.2))
-kind_means kinds.Dense table scale at held given e =
-    let n = both_parts (dense_of table scale at (lists_by held)) (λ nodes. Ok (just_nodes nodes)) given e in
+kind_means kinds.DenseNodes table scale at held given e =
+    let n = both_parts (decoded_dense_nodes table scale at (dense_numbers (lists_by held))) (λ nodes. Ok (just_nodes nodes)) given e in
     (n.0, dense_means table scale at held n.0 n.1, sym (ok_one (just_nodes n.0) given n.2))
 kind_means kinds.Way table scale at held given e =
-    let n = both_parts (way_of table at (lists_by held)) (λ way. Ok (just_ways (way ∷ []))) given e in
+    let n = both_parts (decoded_way table at (way_numbers (lists_by held))) (λ way. Ok (just_ways (way ∷ []))) given e in
     (n.0, way_means table at held n.0 n.1, sym (ok_one (just_ways (n.0 ∷ [])) given n.2))
 kind_means kinds.Relation table scale at held given e =
-    let n = both_parts (relation_of table at (lists_by held)) (λ relation. Ok (just_relations (relation ∷ []))) given e in
+    let n = both_parts (decoded_relation table at (relation_numbers (lists_by held))) (λ relation. Ok (just_relations (relation ∷ []))) given e in
     (n.0, relation_means table at held n.0 n.1, sym (ok_one (just_relations (n.0 ∷ [])) given n.2))
 
 pub kind_meant : (kind : ObjectKind) (table : List (List ℕ)) (scale : Scale) (at : ℕ) (held : HeldNumbers) (given : Objects) → MeansObject kind table scale held given → meaning_of kind table scale at (lists_by held) ≡ Ok given
-kind_meant kinds.Node table scale at held given (node, means, is) = then_is (node_of table scale at (lists_by held)) node (λ node. Ok (just_nodes (node ∷ []))) given (node_meant table scale at held node means) (ap (λ o. Ok o) (sym is))
-kind_meant kinds.Dense table scale at held given (nodes, means, is) = then_is (dense_of table scale at (lists_by held)) nodes (λ nodes. Ok (just_nodes nodes)) given (dense_meant table scale at held nodes means) (ap (λ o. Ok o) (sym is))
-kind_meant kinds.Way table scale at held given (way, means, is) = then_is (way_of table at (lists_by held)) way (λ way. Ok (just_ways (way ∷ []))) given (way_meant table at held way means) (ap (λ o. Ok o) (sym is))
-kind_meant kinds.Relation table scale at held given (relation, means, is) = then_is (relation_of table at (lists_by held)) relation (λ relation. Ok (just_relations (relation ∷ []))) given (relation_meant table at held relation means) (ap (λ o. Ok o) (sym is))
+kind_meant kinds.Node table scale at held given (node, means, is) = then_is (decoded_node table scale at (node_numbers (lists_by held))) node (λ node. Ok (just_nodes (node ∷ []))) given (node_meant table scale at held node means) (ap (λ o. Ok o) (sym is))
+kind_meant kinds.DenseNodes table scale at held given (nodes, means, is) = then_is (decoded_dense_nodes table scale at (dense_numbers (lists_by held))) nodes (λ nodes. Ok (just_nodes nodes)) given (dense_meant table scale at held nodes means) (ap (λ o. Ok o) (sym is))
+kind_meant kinds.Way table scale at held given (way, means, is) = then_is (decoded_way table at (way_numbers (lists_by held))) way (λ way. Ok (just_ways (way ∷ []))) given (way_meant table at held way means) (ap (λ o. Ok o) (sym is))
+kind_meant kinds.Relation table scale at held given (relation, means, is) = then_is (decoded_relation table at (relation_numbers (lists_by held))) relation (λ relation. Ok (just_relations (relation ∷ []))) given (relation_meant table at held relation means) (ap (λ o. Ok o) (sym is))
 
 pub kind_decides : (kind : ObjectKind) (table : List (List ℕ)) (scale : Scale) (at : ℕ) (held : HeldNumbers) → DecidesFrom (IsCauseIn table scale kind held) at (0, 0) (meaning_of kind table scale at (lists_by held))
-kind_decides kinds.Node table scale at held = step_value (IsCauseIn table scale kinds.Node held) at (0, 0) (node_of table scale at (lists_by held)) (λ node. just_nodes (node ∷ [])) (node_decides table scale at held)
-kind_decides kinds.Dense table scale at held = step_value (IsCauseIn table scale kinds.Dense held) at (0, 0) (dense_of table scale at (lists_by held)) (λ nodes. just_nodes nodes) (dense_decides table scale at held)
-kind_decides kinds.Way table scale at held = step_value (IsCauseIn table scale kinds.Way held) at (0, 0) (way_of table at (lists_by held)) (λ way. just_ways (way ∷ [])) (way_decides table scale at held)
-kind_decides kinds.Relation table scale at held = step_value (IsCauseIn table scale kinds.Relation held) at (0, 0) (relation_of table at (lists_by held)) (λ relation. just_relations (relation ∷ [])) (relation_decides table scale at held)
+kind_decides kinds.Node table scale at held = step_value (IsCauseIn table scale kinds.Node held) at (0, 0) (decoded_node table scale at (node_numbers (lists_by held))) (λ node. just_nodes (node ∷ [])) (node_decides table scale at held)
+kind_decides kinds.DenseNodes table scale at held = step_value (IsCauseIn table scale kinds.DenseNodes held) at (0, 0) (decoded_dense_nodes table scale at (dense_numbers (lists_by held))) (λ nodes. just_nodes nodes) (dense_decides table scale at held)
+kind_decides kinds.Way table scale at held = step_value (IsCauseIn table scale kinds.Way held) at (0, 0) (decoded_way table at (way_numbers (lists_by held))) (λ way. just_ways (way ∷ [])) (way_decides table scale at held)
+kind_decides kinds.Relation table scale at held = step_value (IsCauseIn table scale kinds.Relation held) at (0, 0) (decoded_relation table at (relation_numbers (lists_by held))) (λ relation. just_relations (relation ∷ [])) (relation_decides table scale at held)
 
 -- ---- one fault at one rank
 
 names_same : (kind : ObjectKind) (held : HeldNumbers) (one other : List NamedText) → AreNames kind held one → AreNames kind held other → one ≡ other
 names_same kinds.Node held one other (a, p, e) (b, q, f) = e ∙ ap tag_names (one_pairs (held 2) (held 3) a b p q) ∙ sym f
-names_same kinds.Dense held one other (a, p, m, e) (b, q, n, f) = e ∙ ap (λ gs. tag_names (pairs_in gs)) (one_groups (held 10) (length (held 1)) a b p q m n) ∙ sym f
+names_same kinds.DenseNodes held one other (a, p, m, e) (b, q, n, f) = e ∙ ap (λ gs. tag_names (pairs_in gs)) (one_groups (held 10) (length (held 1)) a b p q m n) ∙ sym f
 names_same kinds.Way held one other (a, p, e) (b, q, f) = e ∙ ap tag_names (one_pairs (held 2) (held 3) a b p q) ∙ sym f
 names_same kinds.Relation held one other (a, p, e) (b, q, f) = e ∙ ap (λ pairs. tag_names pairs ++ role_names (held 8)) (one_pairs (held 2) (held 3) a b p q) ∙ sym f
 
 one_id : (kind : ObjectKind) (scale : Scale) (held : HeldNumbers) (place : ℕ) (a b : ℤ) → IsMisplaced kind scale held place a → IsMisplaced kind scale held place b → a ≡ b
 one_id kinds.Node scale held place a b p q = p.id_is ∙ ap (λ n. unzigzag_of n) (one_last (held 1) p.number q.number p.has_id q.has_id) ∙ sym q.id_is
-one_id kinds.Dense scale held place a b p q = p.id_is ∙ sym q.id_is
+one_id kinds.DenseNodes scale held place a b p q = p.id_is ∙ sym q.id_is
 one_id kinds.Way scale held place a b p q = absurd p
 one_id kinds.Relation scale held place a b p q = absurd p
 

@@ -1,20 +1,19 @@
 -- What the texts that an object names give, and which of them is the first bad one.
-use Rattle.std.proofs.Common.{◌≡◌, ◌⊎◌, inl, inr, ℕ, zero, suc, ◌+◌, ◌||◌, ◌&&◌, eqb, cond, Bool, true, false, List, [], ◌∷◌, ◌++◌, map, length, take, drop, Option, Some, None, Result, Ok, Err, refl, sym, ap, ◌∙◌, subst, arith, append_assoc}
+use Rattle.std.proofs.Common.{◌≡◌, ◌⊎◌, inl, inr, ℕ, ◌+◌, ◌||◌, ◌&&◌, eqb, cond, Bool, true, false, List, [], ◌∷◌, ◌++◌, Option, Some, None, Result, Ok, Err, refl, sym, ap, ◌∙◌, subst, arith, append_assoc}
 use Rattle.std.specs.Prelude.{slice_get, codes, nat_eq}
-use Rattle.std.specs.List.{starts_with, flat_map, AllByRecursion}
+use Rattle.std.specs.List.{starts_with, AllByRecursion}
 use Rattle.std.specs.Str.{IsUtf8, is_utf8, bytes_eq}
-use Rattle.std.proofs.lemmas.Bool.{cases_Bool, eqb-true}
+use Rattle.std.proofs.lemmas.Bool.{eqb-true}
 use Rattle.std.proofs.lemmas.Bool.Decides.{nat_tests}
 use Rattle.std.proofs.lemmas.Str.{IsUtf8-from_is_utf8, is_utf8-from_IsUtf8}
-use Rattle.osm_messages.specs.Means.{Together}
 use Rattle.osm_model.specs.declared.tags.Tag.{Tag}
 use Rattle.osm_objects.specs.declared.fault.ObjectFault.{ObjectFault}
 use Rattle.osm_objects.specs.declared.fault.ObjectFault.TheVariants as faults
-use Rattle.osm_objects.specs.Steps.{◌>>=◌, each, each_joined}
-use Rattle.osm_objects.specs.KeptKeys.{road_keys, access_keys, relation_keys, is_among, is_kept}
+use Rattle.osm_objects.specs.Steps.{◌>>=◌, each}
+use Rattle.osm_objects.specs.KeptKeys.{road_keys, access_keys, relation_keys, is_key_among, is_kept}
 use Rattle.osm_objects.specs.Tags.{found, bytes_at, as_text, text_at, kept_tag, dropped_tag, keeps, tag_of, tags_of}
-use Rattle.osm_objects.specs.Means.{HoldsOfOne, HasTextAt, IsUtf8Text, kept_keys, IsKept, IsTagOf, GivesTag, AreTags}
-use Rattle.osm_objects.specs.Causes.{NamedText, KeyText, ValueText, RoleText, index_of, IsBadText, IsBadName, tag_names, pairs_in, role_names}
+use Rattle.osm_objects.specs.Means.{HoldsOfOne, HasTextAt, IsUtf8Text, kept_keys, IsKept, GivesTag, AreKeptTags}
+use Rattle.osm_objects.specs.Causes.{NamedText, KeyText, ValueText, RoleText, index_of, IsBadText, IsBadName, tag_names, pairs_in}
 use Rattle.osm_objects.proofs.LawParts.{ok_one, err_one, ok_not_err, both_parts, which_part, then_is, Groups}
 
 true_false : {b : Bool} → b ≡ true → b ≡ false → ⊥
@@ -42,20 +41,20 @@ bytes_same : (xs : List ℕ) → bytes_eq xs xs ≡ true
 bytes_same [] = refl
 bytes_same (x ∷ xs) = ap (λ b. b && bytes_eq xs xs) (same_test x) ∙ bytes_same xs
 
-among_some : (key : List ℕ) (keys : List (List ℕ)) → is_among key keys ≡ true → HoldsOfOne (λ (kept : List ℕ). key ≡ kept) keys
+among_some : (key : List ℕ) (keys : List (List ℕ)) → is_key_among key keys ≡ true → HoldsOfOne (λ (kept : List ℕ). key ≡ kept) keys
 among_some key [] e = absurd cc
 among_some key (k ∷ ks) e = by (bytes_eq key k) refl (among_some key ks) e
   where
-    by : (b : Bool) → bytes_eq key k ≡ b → (is_among key ks ≡ true → HoldsOfOne (λ (kept : List ℕ). key ≡ kept) ks) → (b || is_among key ks) ≡ true → (key ≡ k) ⊎ HoldsOfOne (λ (kept : List ℕ). key ≡ kept) ks
+    by : (b : Bool) → bytes_eq key k ≡ b → (is_key_among key ks ≡ true → HoldsOfOne (λ (kept : List ℕ). key ≡ kept) ks) → (b || is_key_among key ks) ≡ true → (key ≡ k) ⊎ HoldsOfOne (λ (kept : List ℕ). key ≡ kept) ks
     by true h rest e = inl (same_bytes key k h)
     by false h rest e = inr (rest e)
 
-some_among : (key : List ℕ) (keys : List (List ℕ)) → HoldsOfOne (λ (kept : List ℕ). key ≡ kept) keys → is_among key keys ≡ true
+some_among : (key : List ℕ) (keys : List (List ℕ)) → HoldsOfOne (λ (kept : List ℕ). key ≡ kept) keys → is_key_among key keys ≡ true
 some_among key [] some = absurd some
-some_among key (k ∷ ks) (inl e) = ap (λ b. b || is_among key ks) (ap (bytes_eq key) (sym e) ∙ bytes_same key)
+some_among key (k ∷ ks) (inl e) = ap (λ b. b || is_key_among key ks) (ap (bytes_eq key) (sym e) ∙ bytes_same key)
 some_among key (k ∷ ks) (inr some) = by (bytes_eq key k) (some_among key ks some)
   where
-    by : (b : Bool) → is_among key ks ≡ true → (b || is_among key ks) ≡ true
+    by : (b : Bool) → is_key_among key ks ≡ true → (b || is_key_among key ks) ≡ true
     by true e = refl
     by false e = e
 
@@ -113,7 +112,7 @@ IsThis key kept = key ≡ kept
 kept_is : (key : List ℕ) → is_kept key ≡ true → IsKept key
 unfolding is_kept
 kept_is key e =
-    elim (one_or (is_among key road_keys) (is_among key access_keys) (is_among key relation_keys) (starts_with nat_eq key (codes "restriction:")) e) [
+    elim (one_or (is_key_among key road_keys) (is_key_among key access_keys) (is_key_among key relation_keys) (starts_with nat_eq key (codes "restriction:")) e) [
       | inl a ↦ inl (subst (HoldsOfOne (IsThis key)) (sym keys_are) (some_left (IsThis key) road_keys (access_keys ++ relation_keys) (among_some key road_keys a)))
       | inr h ↦ elim h [
         | inl b ↦ inl (subst (HoldsOfOne (IsThis key)) (sym keys_are) (some_right (IsThis key) road_keys (access_keys ++ relation_keys) (some_left (IsThis key) access_keys relation_keys (among_some key access_keys b))))
@@ -127,7 +126,7 @@ kept_is key e =
 is_kept_so : (key : List ℕ) → IsKept key → is_kept key ≡ true
 unfolding is_kept
 is_kept_so key kept =
-    or_one (is_among key road_keys) (is_among key access_keys) (is_among key relation_keys) (starts_with nat_eq key (codes "restriction:"))
+    or_one (is_key_among key road_keys) (is_key_among key access_keys) (is_key_among key relation_keys) (starts_with nat_eq key (codes "restriction:"))
     (elim kept [
       | inl some ↦ elim (some_which (IsThis key) road_keys (access_keys ++ relation_keys) (subst (HoldsOfOne (IsThis key)) keys_are some)) [
         | inl a ↦ inl (some_among key road_keys a)
@@ -405,14 +404,14 @@ tag_reads table at pair = record { good = good_of; bad = bad_of }
               by f k.0 (found_ok table at pair.0 k.0 k.1) (is_kept k.0) refl (ap (λ b. cond b (kept_tag table at pair) (dropped_tag table at pair)) (ok_one (is_kept k.0) h.0 k.2) ∙ h.2))
         ]
 
-pub tags_ok : (table : List (List ℕ)) (at : ℕ) (pairs : List (ℕ × ℕ)) (ts : List Tag) → tags_of table at pairs ≡ Ok ts → AreTags table pairs ts
+pub tags_ok : (table : List (List ℕ)) (at : ℕ) (pairs : List (ℕ × ℕ)) (ts : List Tag) → tags_of table at pairs ≡ Ok ts → AreKeptTags table pairs ts
 tags_ok table at [] ts e = sym (ok_one [] ts e)
 tags_ok table at (pair ∷ pairs) ts e =
     let a = both_parts (tag_of table at pair) (λ one. tags_of table at pairs >>= λ more. Ok (one ++ more)) ts e in
     let b = both_parts (tags_of table at pairs) (λ more. Ok (a.0 ++ more)) ts a.2 in
     (a.0, b.0, tag_way table at pair a.0 a.1, sym (ok_one (a.0 ++ b.0) ts b.2), tags_ok table at pairs b.0 b.1)
 
-pub tags_is : (table : List (List ℕ)) (at : ℕ) (pairs : List (ℕ × ℕ)) (ts : List Tag) → AreTags table pairs ts → tags_of table at pairs ≡ Ok ts
+pub tags_is : (table : List (List ℕ)) (at : ℕ) (pairs : List (ℕ × ℕ)) (ts : List Tag) → AreKeptTags table pairs ts → tags_of table at pairs ≡ Ok ts
 tags_is table at [] ts are = ap (λ l. Ok l) (sym are)
 tags_is table at (pair ∷ pairs) ts (one, more, gives, whole, rest) =
     then_is (tag_of table at pair) one (λ one. tags_of table at pairs >>= λ more. Ok (one ++ more)) ts (tag_is table at pair one gives)

@@ -1,6 +1,5 @@
 -- Where nodes lie, and which of them is the first that isn't on the earth.
-use Rattle.std.proofs.Common.{◌≡◌, ◌⊎◌, inl, inr, ℕ, zero, suc, ◌+◌, ◌<◌, ◌≤◌, ◌&&◌, ◌/◌, ◌%◌, ℤ, pos, negsuc, neg_ℤ, ◌+ℤ◌, ◌*ℤ◌, ◌≤ℤ◌, ◌<ℤ◌, cond, Bool, true, false, List, [], ◌∷◌, ◌++◌, map, length, Option, Some, None, Result, Ok, Err, refl, sym, ap, ◌∙◌, subst, arith}
-use Rattle.std.specs.Prelude.{slice_get}
+use Rattle.std.proofs.Common.{◌≡◌, inl, inr, ℕ, ◌+◌, ◌&&◌, ℤ, pos, negsuc, cond, Bool, true, false, List, [], ◌∷◌, ◌++◌, map, Result, Ok, Err, refl, sym, ap, ◌∙◌, subst, arith}
 use Rattle.std.specs.Int.{int_div_euclid}
 use Rattle.std.specs.List.{AllByRecursion, AllZip}
 use Rattle.std.proofs.lemmas.Int.{ints}
@@ -14,7 +13,7 @@ use Rattle.osm_objects.specs.Scales.{units_of, is_within}
 use Rattle.osm_objects.specs.Tags.{tags_of}
 use Rattle.osm_objects.specs.Coordinates.{placed, node_at}
 use Rattle.osm_objects.specs.Nodes.{nodes_at}
-use Rattle.osm_objects.specs.Means.{lat_nano, lon_nano, IsRoundedDown, IsOnEarth, IsPlaceAt, IsNodeAt, AreTags, DenseRow, MeansRow}
+use Rattle.osm_objects.specs.Means.{lat_nano, lon_nano, IsRoundedDown, IsOnEarth, IsPlaceAt, IsNodeAt, AreKeptTags, DenseRow, MeansRow}
 use Rattle.osm_objects.specs.Causes.{IsOffEarth}
 use Rattle.osm_objects.proofs.LawParts.{ok_one, err_one, ok_not_err, both_parts, which_part, then_is, Groups}
 use Rattle.osm_objects.proofs.LawNames.{tags_ok, tags_is}
@@ -100,10 +99,10 @@ node_is scale id lat lon tags node is same = by (node_at scale id lat lon tags) 
 
 -- the tags are those of the pairs
 pub node_ok : (table : List (List ℕ)) (scale : Scale) (at : ℕ) (id lat lon : ℤ) (pairs : List (ℕ × ℕ)) (tags : List Tag) (node : OsmNode) → tags_of table at pairs ≡ Ok tags → node_at scale id lat lon tags ≡ Ok node
-    → AreTags table pairs node.tags × IsNodeAt scale id lat lon node
+    → AreKeptTags table pairs node.tags × IsNodeAt scale id lat lon node
 node_ok table scale at id lat lon pairs tags node t e =
     let p = node_way scale id lat lon tags node e in
-    (subst (AreTags table pairs) (sym p.1) (tags_ok table at pairs tags t), p.0)
+    (subst (AreKeptTags table pairs) (sym p.1) (tags_ok table at pairs tags t), p.0)
 
 pub node_fault : (scale : Scale) (id lat lon : ℤ) (tags : List Tag) (f : ObjectFault) → node_at scale id lat lon tags ≡ Err f → (f ≡ faults.BadCoordinate id) × IsOffEarth scale lat lon
 node_fault = node_bad

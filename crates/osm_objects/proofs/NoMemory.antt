@@ -11,6 +11,7 @@ use Rattle.osm_messages.specs.declared.kind.ObjectKind.TheVariants as object_kin
 use Rattle.osm_messages.specs.Groups.{Object}
 use Rattle.osm_messages.specs.Blocks.{Block}
 use Rattle.osm_messages.specs.Lists.{Lists}
+use Rattle.osm_messages.specs.RawNumbers.{NodeNumbers, node_numbers, DenseNumbers, dense_numbers, WayNumbers, way_numbers, RelationNumbers, relation_numbers}
 use Rattle.osm_model.specs.declared.tags.Tag.{Tag}
 use Rattle.osm_model.specs.declared.relations.MemberKind.{MemberKind}
 use Rattle.osm_objects.specs.declared.fault.ObjectFault.{ObjectFault}
@@ -21,9 +22,9 @@ use Rattle.osm_objects.specs.Sums.{fits_i64, sums_from, sums_of}
 use Rattle.osm_objects.specs.Tags.{found, bytes_at, text_at, kept_tag, dropped_tag, keeps, tag_of, tags_of}
 use Rattle.osm_objects.specs.Groups.{groups_in, exactly, groups_of}
 use Rattle.osm_objects.specs.Coordinates.{placed, node_at}
-use Rattle.osm_objects.specs.Nodes.{node_of, nodes_at, grouped_nodes, dense_of}
-use Rattle.osm_objects.specs.Ways.{way_of}
-use Rattle.osm_objects.specs.Relations.{kind_of, members_of, relation_of}
+use Rattle.osm_objects.specs.Nodes.{decoded_node, nodes_at, grouped_nodes, decoded_dense_nodes}
+use Rattle.osm_objects.specs.Ways.{decoded_way}
+use Rattle.osm_objects.specs.Relations.{member_kind_of, members_of, decoded_relation}
 use Rattle.osm_objects.specs.Objects.{Objects, no_objects, lists_in, meaning_of, with_object, with_objects, scale_of, table_of, objects_of}
 use Rattle.osm_objects.specs.declared.fault.ObjectFault.TheVariants as faults
 
@@ -110,13 +111,13 @@ unfolding node_at
 node_at-of scale id lat lon tags =
     placed-of id (units_of scale.granularity scale.lat_offset lat) (units_of scale.granularity scale.lon_offset lon) tags
 
-node_of-of : (table : List (List ℕ)) (scale : Scale) (at : ℕ) (lists : Lists) → Meant (node_of table scale at lists)
-unfolding node_of
-node_of-of table scale at lists =
-    next-of (one_number at 1 lists.first) _ (one_number-of at 1 lists.first)
-    (λ id. next-of (one_number at 8 lists.eighth) _ (one_number-of at 8 lists.eighth)
-    (λ lat. next-of (one_number at 9 lists.ninth) _ (one_number-of at 9 lists.ninth)
-    (λ lon. next-of (pairs_of at lists.second lists.third) _ (pairs_of-of at lists.second lists.third)
+decoded_node-of : (table : List (List ℕ)) (scale : Scale) (at : ℕ) (raw : NodeNumbers) → Meant (decoded_node table scale at raw)
+unfolding decoded_node
+decoded_node-of table scale at raw =
+    next-of (one_number at 1 raw.id) _ (one_number-of at 1 raw.id)
+    (λ id. next-of (one_number at 8 raw.lat) _ (one_number-of at 8 raw.lat)
+    (λ lat. next-of (one_number at 9 raw.lon) _ (one_number-of at 9 raw.lon)
+    (λ lon. next-of (pairs_of at raw.keys raw.vals) _ (pairs_of-of at raw.keys raw.vals)
     (λ pairs. next-of (tags_of table at pairs) _ (tags_of-of table at pairs)
     (λ tags. node_at-of scale (unzigzag_of id) (unzigzag_of lat) (unzigzag_of lon) tags)))))
 
@@ -131,53 +132,53 @@ unfolding grouped_nodes
 grouped_nodes-of table scale at groups ids lats lons =
     next-of (each (tags_of table at) groups) _ (each-of (tags_of table at) (tags_of-of table at) groups) (λ tag_lists. nodes_at-of scale ids lats lons tag_lists)
 
-dense_of-of : (table : List (List ℕ)) (scale : Scale) (at : ℕ) (lists : Lists) → Meant (dense_of table scale at lists)
-unfolding dense_of
-dense_of-of table scale at lists =
-    next-of (as_many at lists.first lists.eighth) _ (as_many-of at lists.first lists.eighth)
-    (λ lats_even. next-of (as_many at lists.first lists.ninth) _ (as_many-of at lists.first lists.ninth)
-    (λ lons_even. next-of (groups_of at (length lists.first) lists.tenth) _ (groups_of-of at (length lists.first) lists.tenth)
-    (λ groups. next-of (sums_of at lists.first) _ (sums_from-of at (pos 0) lists.first)
-    (λ ids. next-of (sums_of at lists.eighth) _ (sums_from-of at (pos 0) lists.eighth)
-    (λ lats. next-of (sums_of at lists.ninth) _ (sums_from-of at (pos 0) lists.ninth)
+decoded_dense_nodes-of : (table : List (List ℕ)) (scale : Scale) (at : ℕ) (raw : DenseNumbers) → Meant (decoded_dense_nodes table scale at raw)
+unfolding decoded_dense_nodes
+decoded_dense_nodes-of table scale at raw =
+    next-of (as_many at raw.id raw.lat) _ (as_many-of at raw.id raw.lat)
+    (λ lats_even. next-of (as_many at raw.id raw.lon) _ (as_many-of at raw.id raw.lon)
+    (λ lons_even. next-of (groups_of at (length raw.id) raw.keys_vals) _ (groups_of-of at (length raw.id) raw.keys_vals)
+    (λ groups. next-of (sums_of at raw.id) _ (sums_from-of at (pos 0) raw.id)
+    (λ ids. next-of (sums_of at raw.lat) _ (sums_from-of at (pos 0) raw.lat)
+    (λ lats. next-of (sums_of at raw.lon) _ (sums_from-of at (pos 0) raw.lon)
     (λ lons. grouped_nodes-of table scale at groups ids lats lons))))))
 
-way_of-of : (table : List (List ℕ)) (at : ℕ) (lists : Lists) → Meant (way_of table at lists)
-unfolding way_of
-way_of-of table at lists =
-    next-of (one_number at 1 lists.first) _ (one_number-of at 1 lists.first)
-    (λ id. next-of (pairs_of at lists.second lists.third) _ (pairs_of-of at lists.second lists.third)
-    (λ pairs. next-of (sums_of at lists.eighth) _ (sums_from-of at (pos 0) lists.eighth)
+decoded_way-of : (table : List (List ℕ)) (at : ℕ) (raw : WayNumbers) → Meant (decoded_way table at raw)
+unfolding decoded_way
+decoded_way-of table at raw =
+    next-of (one_number at 1 raw.id) _ (one_number-of at 1 raw.id)
+    (λ id. next-of (pairs_of at raw.keys raw.vals) _ (pairs_of-of at raw.keys raw.vals)
+    (λ pairs. next-of (sums_of at raw.refs) _ (sums_from-of at (pos 0) raw.refs)
     (λ refs. next-of (tags_of table at pairs) _ (tags_of-of table at pairs) (λ tags. tt))))
 
-kind_of-of : (at n : ℕ) → Meant (kind_of at n)
-kind_of-of at zero = tt
-kind_of-of at (suc zero) = tt
-kind_of-of at (suc (suc zero)) = tt
-kind_of-of at (suc (suc (suc n))) = tt
+member_kind_of-of : (at n : ℕ) → Meant (member_kind_of at n)
+member_kind_of-of at zero = tt
+member_kind_of-of at (suc zero) = tt
+member_kind_of-of at (suc (suc zero)) = tt
+member_kind_of-of at (suc (suc (suc n))) = tt
 
 members_of-of : (table : List (List ℕ)) (at : ℕ) (roles : List ℕ) (ids : List ℤ) (types : List MemberKind) → Meant (members_of table at roles ids types)
 members_of-of table at (role ∷ roles) (id ∷ ids) (kind ∷ types) =
     next-of (text_at table at role) _ (text_at-of table at role) (λ text. next-of (members_of table at roles ids types) _ (members_of-of table at roles ids types) (λ members. tt))
 members_of-of table at _ _ _ = tt
 
-relation_of-of : (table : List (List ℕ)) (at : ℕ) (lists : Lists) → Meant (relation_of table at lists)
-unfolding relation_of
-relation_of-of table at lists =
-    next-of (one_number at 1 lists.first) _ (one_number-of at 1 lists.first)
-    (λ id. next-of (pairs_of at lists.second lists.third) _ (pairs_of-of at lists.second lists.third)
-    (λ pairs. next-of (as_many at lists.eighth lists.ninth) _ (as_many-of at lists.eighth lists.ninth)
-    (λ ids_even. next-of (as_many at lists.eighth lists.tenth) _ (as_many-of at lists.eighth lists.tenth)
-    (λ types_even. next-of (each (kind_of at) lists.tenth) _ (each-of (kind_of at) (kind_of-of at) lists.tenth)
-    (λ types. next-of (sums_of at lists.ninth) _ (sums_from-of at (pos 0) lists.ninth)
+decoded_relation-of : (table : List (List ℕ)) (at : ℕ) (raw : RelationNumbers) → Meant (decoded_relation table at raw)
+unfolding decoded_relation
+decoded_relation-of table at raw =
+    next-of (one_number at 1 raw.id) _ (one_number-of at 1 raw.id)
+    (λ id. next-of (pairs_of at raw.keys raw.vals) _ (pairs_of-of at raw.keys raw.vals)
+    (λ pairs. next-of (as_many at raw.roles_sid raw.memids) _ (as_many-of at raw.roles_sid raw.memids)
+    (λ ids_even. next-of (as_many at raw.roles_sid raw.types) _ (as_many-of at raw.roles_sid raw.types)
+    (λ types_even. next-of (each (member_kind_of at) raw.types) _ (each-of (member_kind_of at) (member_kind_of-of at) raw.types)
+    (λ types. next-of (sums_of at raw.memids) _ (sums_from-of at (pos 0) raw.memids)
     (λ ids. next-of (tags_of table at pairs) _ (tags_of-of table at pairs)
-    (λ tags. next-of (members_of table at lists.eighth ids types) _ (members_of-of table at lists.eighth ids types) (λ members. tt))))))))
+    (λ tags. next-of (members_of table at raw.roles_sid ids types) _ (members_of-of table at raw.roles_sid ids types) (λ members. tt))))))))
 
 meaning_of-of : (kind : ObjectKind) (table : List (List ℕ)) (scale : Scale) (at : ℕ) (lists : Lists) → Meant (meaning_of kind table scale at lists)
-meaning_of-of object_kinds.Node table scale at lists = next-of (node_of table scale at lists) _ (node_of-of table scale at lists) (λ node. tt)
-meaning_of-of object_kinds.Dense table scale at lists = next-of (dense_of table scale at lists) _ (dense_of-of table scale at lists) (λ nodes. tt)
-meaning_of-of object_kinds.Way table scale at lists = next-of (way_of table at lists) _ (way_of-of table at lists) (λ way. tt)
-meaning_of-of object_kinds.Relation table scale at lists = next-of (relation_of table at lists) _ (relation_of-of table at lists) (λ relation. tt)
+meaning_of-of object_kinds.Node table scale at lists = next-of (decoded_node table scale at (node_numbers lists)) _ (decoded_node-of table scale at (node_numbers lists)) (λ node. tt)
+meaning_of-of object_kinds.DenseNodes table scale at lists = next-of (decoded_dense_nodes table scale at (dense_numbers lists)) _ (decoded_dense_nodes-of table scale at (dense_numbers lists)) (λ nodes. tt)
+meaning_of-of object_kinds.Way table scale at lists = next-of (decoded_way table at (way_numbers lists)) _ (decoded_way-of table at (way_numbers lists)) (λ way. tt)
+meaning_of-of object_kinds.Relation table scale at lists = next-of (decoded_relation table at (relation_numbers lists)) _ (decoded_relation-of table at (relation_numbers lists)) (λ relation. tt)
 
 with_objects-of : (table : List (List ℕ)) (scale : Scale) (before : Objects) (objects : List Object) → Meant (with_objects table scale before objects)
 with_objects-of table scale before [] = tt

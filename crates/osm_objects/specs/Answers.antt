@@ -1,10 +1,10 @@
--- What a function of this crate answers, against what the definition gives. Want of memory may come instead.
+-- The result of a function of this crate, against what the definition gives. Only out of memory is free.
 use Rattle.std.specs.Prelude.{◌≡◌, List, ◌++◌, Result, Ok, Err, IsOk}
 use Rattle.osm_objects.specs.declared.fault.ObjectFault.{ObjectFault}
 use Rattle.osm_objects.specs.declared.fault.ObjectFault.TheVariants as faults
 use Rattle.osm_objects.specs.Steps.{◌>>=◌}
 
--- the fault is the one that is given
+-- the fault is the definition's; only out of memory is free
 abbrev pub AnswersFault : {B : Type 0} → ObjectFault → Result B ObjectFault → Type 0
 AnswersFault (faults.MissingField at number) given = given ≡ Err (faults.MissingField at number)
 AnswersFault (faults.Uneven at) given = given ≡ Err (faults.Uneven at)
@@ -13,17 +13,17 @@ AnswersFault (faults.BadString at index) given = given ≡ Err (faults.BadString
 AnswersFault (faults.BadCoordinate id) given = given ≡ Err (faults.BadCoordinate id)
 AnswersFault faults.OutOfMemory given = Unit {0}
 
--- the value, seen so, is the one that is given; a fault exactly where it is given
+-- the result, viewed by `view`, equals the definition's; only out of memory is free
 abbrev pub Answers : {A B : Type 0} → (A → B) → Result A ObjectFault → Result B ObjectFault → Type 0
 Answers view (Ok value) given = given ≡ Ok (view value)
 Answers view (Err fault) given = AnswersFault fault given
 
--- the new value is the one that is given; a fault exactly where it is given
+-- where the result is `Ok`, the new value equals the definition's; only out of memory is free
 abbrev pub Becomes : {A B : Type 0} → Result A ObjectFault → B → Result B ObjectFault → Type 0
 Becomes (Ok value) new given = given ≡ Ok new
 Becomes (Err fault) new given = AnswersFault fault given
 
--- nothing is amiss where a value is given; a fault exactly where it is given
+-- the result is `Ok` where the definition is; only out of memory is free
 abbrev pub Admits : {B : Type 0} → Result (Unit {0}) ObjectFault → Result B ObjectFault → Type 0
 Admits (Ok nothing) given = IsOk given
 Admits (Err fault) given = AnswersFault fault given

@@ -1,20 +1,20 @@
--- Which faults stand in the objects of a data block, each as a cause with its rank, in the words of the format. Many may
+-- Which faults stand in the objects of a PrimitiveBlock, each as a cause with its rank, in the words of the format. Many may
 -- stand there; a reader is told the first one.
-use Rattle.std.specs.Prelude.{FitsSigned, ◌≡◌, ◌≢◌, ◌⊎◌, ℕ, ◌+◌, ◌<◌, ◌≤◌, ℤ, List, [], ◌∷◌, ◌++◌, map, length, Option, Some, None, slice_get}
+use Rattle.std.specs.Prelude.{FitsSigned, ◌≡◌, ◌≢◌, ◌⊎◌, ℕ, ◌+◌, ◌<◌, ◌≤◌, ℤ, List, [], ◌∷◌, ◌++◌, map, length, Some, None, slice_get}
 use Rattle.std.specs.Int.{w64}
 use Rattle.std.specs.List.{flat_map, AllByRecursion}
 use Rattle.std.specs.Str.{IsUtf8}
 use Rattle.wire_read.specs.ZigZag.{unzigzag_of}
 use Rattle.osm_messages.specs.declared.kind.ObjectKind.{ObjectKind}
 use Rattle.osm_messages.specs.declared.kind.ObjectKind.TheVariants as kinds
+use Rattle.osm_messages.specs.declared.fields.TheConstants.{BLOCK_STRINGTABLE, NODE_ID, NODE_KEYS, NODE_VALS, NODE_LAT, NODE_LON, DENSE_ID, DENSE_LAT, DENSE_LON, DENSE_KEYS_VALS, WAY_ID, WAY_KEYS, WAY_VALS, WAY_REFS, RELATION_ID, RELATION_KEYS, RELATION_VALS, RELATION_ROLES_SID, RELATION_MEMIDS, RELATION_TYPES}
 use Rattle.osm_messages.specs.Groups.{Object}
 use Rattle.osm_messages.specs.Blocks.{Block}
 use Rattle.osm_messages.specs.Means.{IsObject}
 use Rattle.osm_objects.specs.declared.fault.ObjectFault.{ObjectFault}
 use Rattle.osm_objects.specs.declared.fault.ObjectFault.TheVariants as faults
 use Rattle.osm_objects.specs.declared.scale.Scale.{Scale}
-use Rattle.osm_objects.specs.Objects.{Objects}
-use Rattle.osm_objects.specs.Means.{HeldNumbers, held_by, IsLastOf, HoldsOfOne, sum_at, HasTextAt, IsKept, ArePairs, AreGroups, IsPlaceAt, IsOnEarth, lat_nano, lon_nano, GivesObjects, units_in}
+use Rattle.osm_objects.specs.Means.{HeldNumbers, held_by, IsLastOf, HoldsOfOne, sum_at, HasTextAt, IsKept, ArePairs, AreGroups, IsPlaceAt, IsOnEarth, lat_nano, lon_nano, units_in}
 
 -- ---- causes and their ranks
 
@@ -51,12 +51,12 @@ fault_of at (NoPlace place id) = faults.BadCoordinate id
 
 -- ---- fields
 
--- a node needs its fields 1, 8 and 9, a way and a relation their field 1
+-- a node needs its id, its latitude and its longitude, a way and a relation their id
 abbrev pub IsNeeded : ObjectKind → ℕ → Type 0
-IsNeeded kinds.Node number = (number ≡ 1) ⊎ ((number ≡ 8) ⊎ (number ≡ 9))
-IsNeeded kinds.Dense number = ⊥
-IsNeeded kinds.Way number = number ≡ 1
-IsNeeded kinds.Relation number = number ≡ 1
+IsNeeded kinds.Node number = (number ≡ NODE_ID) ⊎ ((number ≡ NODE_LAT) ⊎ (number ≡ NODE_LON))
+IsNeeded kinds.DenseNodes number = ⊥
+IsNeeded kinds.Way number = number ≡ WAY_ID
+IsNeeded kinds.Relation number = number ≡ RELATION_ID
 
 -- ---- lists that belong together
 
@@ -66,11 +66,14 @@ Differ held one other = length (held one) ≢ length (held other)
 
 -- keys and values; ids, latitudes, longitudes and groups; roles, ids and types of members, of which 2 is the greatest
 abbrev pub IsUneven : ObjectKind → HeldNumbers → Type 0
-IsUneven kinds.Node held = Differ held 2 3
-IsUneven kinds.Dense held =
-    Differ held 1 8 ⊎ (Differ held 1 9 ⊎ ((groups : List (List (ℕ × ℕ))) → AreGroups (held 10) groups → length groups ≢ length (held 1)))
-IsUneven kinds.Way held = Differ held 2 3
-IsUneven kinds.Relation held = Differ held 2 3 ⊎ (Differ held 8 9 ⊎ (Differ held 8 10 ⊎ HoldsOfOne (λ (type : ℕ). 2 < type) (held 10)))
+IsUneven kinds.Node held = Differ held NODE_KEYS NODE_VALS
+IsUneven kinds.DenseNodes held =
+    Differ held DENSE_ID DENSE_LAT
+    ⊎ (Differ held DENSE_ID DENSE_LON ⊎ ((groups : List (List (ℕ × ℕ))) → AreGroups (held DENSE_KEYS_VALS) groups → length groups ≢ length (held DENSE_ID)))
+IsUneven kinds.Way held = Differ held WAY_KEYS WAY_VALS
+IsUneven kinds.Relation held =
+    Differ held RELATION_KEYS RELATION_VALS
+    ⊎ (Differ held RELATION_ROLES_SID RELATION_MEMIDS ⊎ (Differ held RELATION_ROLES_SID RELATION_TYPES ⊎ HoldsOfOne (λ (type : ℕ). 2 < type) (held RELATION_TYPES)))
 
 -- ---- sums
 
@@ -80,9 +83,9 @@ HasBadSum differences = (i : ℕ) × (i < length differences) × (FitsSigned w64
 
 abbrev pub IsBadNumber : ObjectKind → HeldNumbers → Type 0
 IsBadNumber kinds.Node held = ⊥
-IsBadNumber kinds.Dense held = HasBadSum (held 1) ⊎ (HasBadSum (held 8) ⊎ HasBadSum (held 9))
-IsBadNumber kinds.Way held = HasBadSum (held 8)
-IsBadNumber kinds.Relation held = HasBadSum (held 9)
+IsBadNumber kinds.DenseNodes held = HasBadSum (held DENSE_ID) ⊎ (HasBadSum (held DENSE_LAT) ⊎ HasBadSum (held DENSE_LON))
+IsBadNumber kinds.Way held = HasBadSum (held WAY_REFS)
+IsBadNumber kinds.Relation held = HasBadSum (held RELATION_MEMIDS)
 
 -- ---- texts
 
@@ -121,12 +124,12 @@ pairs_in groups = flat_map (λ (group : List (ℕ × ℕ)). group) groups
 
 -- what an object names, in order: the roles of a relation stand behind its tags
 abbrev pub AreNames : ObjectKind → HeldNumbers → List NamedText → Type 0
-AreNames kinds.Node held names = (pairs : List (ℕ × ℕ)) × ArePairs (held 2) (held 3) pairs × (names ≡ tag_names pairs)
-AreNames kinds.Dense held names =
-    (groups : List (List (ℕ × ℕ))) × AreGroups (held 10) groups × (length groups ≡ length (held 1)) × (names ≡ tag_names (pairs_in groups))
-AreNames kinds.Way held names = (pairs : List (ℕ × ℕ)) × ArePairs (held 2) (held 3) pairs × (names ≡ tag_names pairs)
+AreNames kinds.Node held names = (pairs : List (ℕ × ℕ)) × ArePairs (held NODE_KEYS) (held NODE_VALS) pairs × (names ≡ tag_names pairs)
+AreNames kinds.DenseNodes held names =
+    (groups : List (List (ℕ × ℕ))) × AreGroups (held DENSE_KEYS_VALS) groups × (length groups ≡ length (held DENSE_ID)) × (names ≡ tag_names (pairs_in groups))
+AreNames kinds.Way held names = (pairs : List (ℕ × ℕ)) × ArePairs (held WAY_KEYS) (held WAY_VALS) pairs × (names ≡ tag_names pairs)
 AreNames kinds.Relation held names =
-    (pairs : List (ℕ × ℕ)) × ArePairs (held 2) (held 3) pairs × (names ≡ tag_names pairs ++ role_names (held 8))
+    (pairs : List (ℕ × ℕ)) × ArePairs (held RELATION_KEYS) (held RELATION_VALS) pairs × (names ≡ tag_names pairs ++ role_names (held RELATION_ROLES_SID))
 
 -- the name with this place has this index, and its text is a bad one
 pub record HasBadName (table : List (List ℕ)) (kind : ObjectKind) (held : HeldNumbers) (place index : ℕ) : Type 0 where
@@ -149,21 +152,21 @@ pub record IsOneOff (scale : Scale) (held : HeldNumbers) (place : ℕ) (id : ℤ
   pub number : ℕ
   pub lat : ℕ
   pub lon : ℕ
-  pub has_id : IsLastOf (held 1) number
-  pub has_lat : IsLastOf (held 8) lat
-  pub has_lon : IsLastOf (held 9) lon
+  pub has_id : IsLastOf (held NODE_ID) number
+  pub has_lat : IsLastOf (held NODE_LAT) lat
+  pub has_lon : IsLastOf (held NODE_LON) lon
   pub id_is : id ≡ unzigzag_of number
   pub off : IsOffEarth scale (unzigzag_of lat) (unzigzag_of lon)
 
--- the node with this place in a dense message
+-- the node with this index in a DenseNodes
 pub record IsRowOff (scale : Scale) (held : HeldNumbers) (place : ℕ) (id : ℤ) : Type 0 where
-  pub within : place < length (held 1)
-  pub id_is : id ≡ sum_at place (held 1)
-  pub off : IsOffEarth scale (sum_at place (held 8)) (sum_at place (held 9))
+  pub within : place < length (held DENSE_ID)
+  pub id_is : id ≡ sum_at place (held DENSE_ID)
+  pub off : IsOffEarth scale (sum_at place (held DENSE_LAT)) (sum_at place (held DENSE_LON))
 
 abbrev pub IsMisplaced : ObjectKind → Scale → HeldNumbers → ℕ → ℤ → Type 0
 IsMisplaced kinds.Node scale held place id = IsOneOff scale held place id
-IsMisplaced kinds.Dense scale held place id = IsRowOff scale held place id
+IsMisplaced kinds.DenseNodes scale held place id = IsRowOff scale held place id
 IsMisplaced kinds.Way scale held place id = ⊥
 IsMisplaced kinds.Relation scale held place id = ⊥
 
@@ -205,8 +208,8 @@ pub record IsFirstAmong (table : List (List ℕ)) (scale : Scale) (objects : Lis
   pub good : AllByRecursion (HasNoFault table scale) before
   pub bad : HasFirstFault table scale object fault
 
--- the first fault of a block: it has no string table, field 1; or it is that of its objects
+-- the first fault of a block: it has no string table; or it is that of its objects
 abbrev pub IsFirstOfBlock : ℕ → Block → ObjectFault → Type 0
 IsFirstOfBlock at block fault =
-    ((block.texts ≡ None) × (fault ≡ faults.MissingField at 1))
+    ((block.texts ≡ None) × (fault ≡ faults.MissingField at BLOCK_STRINGTABLE))
     ⊎ ((table : List (List ℕ)) × (block.texts ≡ Some table) × IsFirstAmong table (units_in block) block.objects fault)

@@ -1,4 +1,4 @@
--- The keys and values of a dense message as the program goes through them, group by group.
+-- The keys and values of a DenseNodes as the program goes through them, group by group.
 use Rattle.std.specs.Prelude.{ℕ, zero, suc, ℤ, List, [], ◌∷◌, length, Result, Ok}
 use Rattle.osm_model.specs.declared.tags.Tag.{Tag}
 use Rattle.osm_model.specs.declared.nodes.OsmNode.{OsmNode}

@@ -1,4 +1,4 @@
--- The keys and values of a dense message (osmformat.proto, DenseNodes.keys_vals): for each node a group of pairs of a
+-- The keys and values of a DenseNodes (osmformat.proto, `keys_vals`): for each node a group of pairs of a
 -- key and a value, ended by a 0 in the place of a key.
 use Rattle.std.specs.Prelude.{ℕ, zero, suc, ◌==◌, if◌then◌else◌, List, [], ◌∷◌, length, replicate, Option, Some, None, Result, Ok, Err}
 use Rattle.std.specs.Option.{option_and_then}

@@ -14,9 +14,9 @@ access_keys = codes "access" ∷ codes "vehicle" ∷ codes "motor_vehicle" ∷ c
 abbrev pub relation_keys : List (List ℕ)
 relation_keys = codes "type" ∷ codes "except" ∷ codes "restriction" ∷ []
 
-abbrev pub is_among : List ℕ → List (List ℕ) → Bool
-is_among key keys = list_any (bytes_eq key) keys
+abbrev pub is_key_among : List ℕ → List (List ℕ) → Bool
+is_key_among key keys = list_any (bytes_eq key) keys
 
 -- it is one of them, or begins with `restriction:`
 unfoldable pub is_kept : List ℕ → Bool
-is_kept key = is_among key road_keys || is_among key access_keys || is_among key relation_keys || starts_with nat_eq key (codes "restriction:")
+is_kept key = is_key_among key road_keys || is_key_among key access_keys || is_key_among key relation_keys || starts_with nat_eq key (codes "restriction:")

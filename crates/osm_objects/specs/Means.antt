@@ -1,13 +1,14 @@
--- What the objects of a data block mean, in the words of the format (osmformat.proto): one relation for each message.
+-- What the objects of a PrimitiveBlock mean, in the words of the format (osmformat.proto): one relation for each message.
 -- Read this first, and then Causes, which says which faults stand in objects that have no meaning. Neither names a step
 -- or an order of work. Nodes, Ways, Relations and Objects compute both, step by step.
-use Rattle.std.specs.Prelude.{FitsSigned, ◌≡◌, ◌≢◌, ◌⊎◌, ℕ, ◌+◌, ◌<◌, ◌==◌, ℤ, pos, neg_ℤ, ◌+ℤ◌, ◌*ℤ◌, ◌≤ℤ◌, ◌<ℤ◌, List, [], ◌∷◌, ◌++◌, map, length, take, Option, Some, codes, slice_get}
+use Rattle.std.specs.Prelude.{FitsSigned, ◌≡◌, ◌≢◌, ◌⊎◌, ℕ, ◌+◌, ◌<◌, ◌==◌, ℤ, pos, neg_ℤ, ◌+ℤ◌, ◌*ℤ◌, ◌≤ℤ◌, ◌<ℤ◌, List, [], ◌∷◌, ◌++◌, map, length, take, Some, codes, slice_get}
 use Rattle.std.specs.Int.{w64, cast_signed}
 use Rattle.std.specs.List.{filter, flat_map, AllByRecursion, AllZip}
 use Rattle.std.specs.Str.{IsUtf8}
 use Rattle.wire_read.specs.ZigZag.{unzigzag_of}
 use Rattle.osm_messages.specs.declared.kind.ObjectKind.{ObjectKind}
 use Rattle.osm_messages.specs.declared.kind.ObjectKind.TheVariants as kinds
+use Rattle.osm_messages.specs.declared.fields.TheConstants.{NODE_ID, NODE_KEYS, NODE_VALS, NODE_LAT, NODE_LON, DENSE_ID, DENSE_LAT, DENSE_LON, DENSE_KEYS_VALS, WAY_ID, WAY_KEYS, WAY_VALS, WAY_REFS, RELATION_ID, RELATION_KEYS, RELATION_VALS, RELATION_ROLES_SID, RELATION_MEMIDS, RELATION_TYPES}
 use Rattle.osm_messages.specs.Groups.{Object}
 use Rattle.osm_messages.specs.Blocks.{Block}
 use Rattle.osm_messages.specs.Means.{Together, IsObject}
@@ -95,15 +96,15 @@ pub record GivesTag (table : List (List ℕ)) (pair : ℕ × ℕ) (given : List 
   pub is : IsTagOf key value given
 
 -- the kept tags of these pairs, in order
-abbrev pub AreTags : List (List ℕ) → List (ℕ × ℕ) → List Tag → Type 0
-AreTags table pairs tags = Together (GivesTag table) pairs tags
+abbrev pub AreKeptTags : List (List ℕ) → List (ℕ × ℕ) → List Tag → Type 0
+AreKeptTags table pairs tags = Together (GivesTag table) pairs tags
 
 -- the pairs of the two lists: each key with its value
 pub record ArePairs (keys values : List ℕ) (pairs : List (ℕ × ℕ)) : Type 0 where
   pub keys_are : keys ≡ map (λ (pair : ℕ × ℕ). pair.0) pairs
   pub values_are : values ≡ map (λ (pair : ℕ × ℕ). pair.1) pairs
 
--- ---- keys and values of a dense message
+-- ---- keys and values of a DenseNodes
 
 -- a group as it is written: the key and the value of each pair, and a 0 that closes it
 abbrev pub written : List (ℕ × ℕ) → List ℕ
@@ -156,20 +157,20 @@ pub record IsNodeAt (scale : Scale) (id lat lon : ℤ) (node : OsmNode) : Type 0
 
 -- ---- objects
 
--- a node: id 1, keys 2, values 3, latitude 8, longitude 9
+-- a node
 pub record MeansNode (table : List (List ℕ)) (scale : Scale) (held : HeldNumbers) (node : OsmNode) : Type 0 where
   pub id : ℕ
   pub lat : ℕ
   pub lon : ℕ
   pub pairs : List (ℕ × ℕ)
-  pub has_id : IsLastOf (held 1) id
-  pub has_lat : IsLastOf (held 8) lat
-  pub has_lon : IsLastOf (held 9) lon
-  pub has_pairs : ArePairs (held 2) (held 3) pairs
-  pub tags : AreTags table pairs node.tags
+  pub has_id : IsLastOf (held NODE_ID) id
+  pub has_lat : IsLastOf (held NODE_LAT) lat
+  pub has_lon : IsLastOf (held NODE_LON) lon
+  pub has_pairs : ArePairs (held NODE_KEYS) (held NODE_VALS) pairs
+  pub tags : AreKeptTags table pairs node.tags
   pub is : IsNodeAt scale (unzigzag_of id) (unzigzag_of lat) (unzigzag_of lon) node
 
--- one node of a dense message
+-- one node of a DenseNodes
 pub record DenseRow : Type 0 where
   pub id : ℤ
   pub lat : ℤ
@@ -177,27 +178,27 @@ pub record DenseRow : Type 0 where
   pub group : List (ℕ × ℕ)
 
 pub record MeansRow (table : List (List ℕ)) (scale : Scale) (row : DenseRow) (node : OsmNode) : Type 0 where
-  pub tags : AreTags table row.group node.tags
+  pub tags : AreKeptTags table row.group node.tags
   pub is : IsNodeAt scale row.id row.lat row.lon node
 
--- a dense message: ids 1, latitudes 8, longitudes 9, keys and values 10
-pub record MeansDense (table : List (List ℕ)) (scale : Scale) (held : HeldNumbers) (nodes : List OsmNode) : Type 0 where
+-- the nodes of a DenseNodes
+pub record MeansDenseNodes (table : List (List ℕ)) (scale : Scale) (held : HeldNumbers) (nodes : List OsmNode) : Type 0 where
   pub rows : List DenseRow
-  pub ids : AreSums (held 1) (map (λ (row : DenseRow). row.id) rows)
-  pub lats : AreSums (held 8) (map (λ (row : DenseRow). row.lat) rows)
-  pub lons : AreSums (held 9) (map (λ (row : DenseRow). row.lon) rows)
-  pub groups : AreGroups (held 10) (map (λ (row : DenseRow). row.group) rows)
+  pub ids : AreSums (held DENSE_ID) (map (λ (row : DenseRow). row.id) rows)
+  pub lats : AreSums (held DENSE_LAT) (map (λ (row : DenseRow). row.lat) rows)
+  pub lons : AreSums (held DENSE_LON) (map (λ (row : DenseRow). row.lon) rows)
+  pub groups : AreGroups (held DENSE_KEYS_VALS) (map (λ (row : DenseRow). row.group) rows)
   pub gives : AllZip (MeansRow table scale) rows nodes
 
--- a way: id 1, in two's complement; keys 2, values 3, refs 8
+-- a way; its id is in two's complement
 pub record MeansWay (table : List (List ℕ)) (held : HeldNumbers) (way : OsmWay) : Type 0 where
   pub id : ℕ
   pub pairs : List (ℕ × ℕ)
-  pub has_id : IsLastOf (held 1) id
-  pub has_pairs : ArePairs (held 2) (held 3) pairs
+  pub has_id : IsLastOf (held WAY_ID) id
+  pub has_pairs : ArePairs (held WAY_KEYS) (held WAY_VALS) pairs
   pub id_is : way.id ≡ cast_signed w64 id
-  pub tags : AreTags table pairs way.tags
-  pub refs : AreSums (held 8) way.refs
+  pub tags : AreKeptTags table pairs way.tags
+  pub refs : AreSums (held WAY_REFS) way.refs
 
 -- the type of a member
 abbrev pub type_of : MemberKind → ℕ
@@ -205,22 +206,22 @@ type_of members.Node = 0
 type_of members.Way = 1
 type_of members.Relation = 2
 
--- a relation: id 1, in two's complement; keys 2, values 3; roles 8, ids 9 and types 10 of its members
+-- a relation; its id is in two's complement
 pub record MeansRelation (table : List (List ℕ)) (held : HeldNumbers) (relation : OsmRelation) : Type 0 where
   pub id : ℕ
   pub pairs : List (ℕ × ℕ)
-  pub has_id : IsLastOf (held 1) id
-  pub has_pairs : ArePairs (held 2) (held 3) pairs
+  pub has_id : IsLastOf (held RELATION_ID) id
+  pub has_pairs : ArePairs (held RELATION_KEYS) (held RELATION_VALS) pairs
   pub id_is : relation.id ≡ cast_signed w64 id
-  pub tags : AreTags table pairs relation.tags
-  pub roles : AllZip (λ (index : ℕ) (member : Member). IsUtf8Text table index member.role) (held 8) relation.members
-  pub ids : AreSums (held 9) (map (λ (member : Member). member.id) relation.members)
-  pub types : held 10 ≡ map (λ (member : Member). type_of member.kind) relation.members
+  pub tags : AreKeptTags table pairs relation.tags
+  pub roles : AllZip (λ (index : ℕ) (member : Member). IsUtf8Text table index member.role) (held RELATION_ROLES_SID) relation.members
+  pub ids : AreSums (held RELATION_MEMIDS) (map (λ (member : Member). member.id) relation.members)
+  pub types : held RELATION_TYPES ≡ map (λ (member : Member). type_of member.kind) relation.members
 
 -- what the numbers of an object mean
 abbrev pub MeansObject : ObjectKind → List (List ℕ) → Scale → HeldNumbers → Objects → Type 0
 MeansObject kinds.Node table scale held given = (node : OsmNode) × MeansNode table scale held node × (given ≡ just_nodes (node ∷ []))
-MeansObject kinds.Dense table scale held given = (nodes : List OsmNode) × MeansDense table scale held nodes × (given ≡ just_nodes nodes)
+MeansObject kinds.DenseNodes table scale held given = (nodes : List OsmNode) × MeansDenseNodes table scale held nodes × (given ≡ just_nodes nodes)
 MeansObject kinds.Way table scale held given = (way : OsmWay) × MeansWay table held way × (given ≡ just_ways (way ∷ []))
 MeansObject kinds.Relation table scale held given = (relation : OsmRelation) × MeansRelation table held relation × (given ≡ just_relations (relation ∷ []))
 

@@ -1,7 +1,8 @@
--- Nodes, one by one (osmformat.proto, Node) and in a dense message (DenseNodes).
+-- Nodes, one by one (osmformat.proto, Node) and many together (DenseNodes).
 use Rattle.std.specs.Prelude.{ℕ, ℤ, List, [], ◌∷◌, length, Result, Ok}
 use Rattle.wire_read.specs.ZigZag.{unzigzag_of}
-use Rattle.osm_messages.specs.Lists.{Lists}
+use Rattle.osm_messages.specs.declared.fields.TheConstants.{NODE_ID, NODE_LAT, NODE_LON}
+use Rattle.osm_messages.specs.RawNumbers.{NodeNumbers, DenseNumbers}
 use Rattle.osm_model.specs.declared.tags.Tag.{Tag}
 use Rattle.osm_model.specs.declared.nodes.OsmNode.{OsmNode}
 use Rattle.osm_objects.specs.declared.fault.ObjectFault.{ObjectFault}
@@ -13,13 +14,13 @@ use Rattle.osm_objects.specs.Tags.{tags_of}
 use Rattle.osm_objects.specs.Groups.{groups_of}
 use Rattle.osm_objects.specs.Coordinates.{node_at}
 
--- a node: id 1, keys 2, values 3, latitude 8, longitude 9; its first byte stands at `at`
-unfoldable pub node_of : List (List ℕ) → Scale → ℕ → Lists → Result OsmNode ObjectFault
-node_of table scale at lists = do
-  id ← one_number at 1 lists.first
-  lat ← one_number at 8 lists.eighth
-  lon ← one_number at 9 lists.ninth
-  pairs ← pairs_of at lists.second lists.third
+-- a node, whose first byte stands at `at`
+unfoldable pub decoded_node : List (List ℕ) → Scale → ℕ → NodeNumbers → Result OsmNode ObjectFault
+decoded_node table scale at node = do
+  id ← one_number at NODE_ID node.id
+  lat ← one_number at NODE_LAT node.lat
+  lon ← one_number at NODE_LON node.lon
+  pairs ← pairs_of at node.keys node.vals
   tags ← tags_of table at pairs
   node_at scale (unzigzag_of id) (unzigzag_of lat) (unzigzag_of lon) tags
 
@@ -37,13 +38,13 @@ grouped_nodes table scale at groups ids lats lons = do
   tag_lists ← each (tags_of table at) groups
   nodes_at scale ids lats lons tag_lists
 
--- the nodes of a dense message: ids 1, latitudes 8, longitudes 9, keys and values 10
-unfoldable pub dense_of : List (List ℕ) → Scale → ℕ → Lists → Result (List OsmNode) ObjectFault
-dense_of table scale at lists = do
-  lats_even ← as_many at lists.first lists.eighth
-  lons_even ← as_many at lists.first lists.ninth
-  groups ← groups_of at (length lists.first) lists.tenth
-  ids ← sums_of at lists.first
-  lats ← sums_of at lists.eighth
-  lons ← sums_of at lists.ninth
+-- the nodes of a DenseNodes
+unfoldable pub decoded_dense_nodes : List (List ℕ) → Scale → ℕ → DenseNumbers → Result (List OsmNode) ObjectFault
+decoded_dense_nodes table scale at dense = do
+  lats_even ← as_many at dense.id dense.lat
+  lons_even ← as_many at dense.id dense.lon
+  groups ← groups_of at (length dense.id) dense.keys_vals
+  ids ← sums_of at dense.id
+  lats ← sums_of at dense.lat
+  lons ← sums_of at dense.lon
   grouped_nodes table scale at groups ids lats lons

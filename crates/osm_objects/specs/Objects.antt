@@ -1,4 +1,4 @@
--- What the objects of a data block mean, or the first fault among them.
+-- What the objects of a PrimitiveBlock mean, or the first fault among them.
 use Rattle.std.specs.Prelude.{ℕ, List, [], ◌∷◌, ◌++◌, All, Option, Some, None, Result, Ok, Err}
 use Rattle.osm_messages.specs.declared.fault.MessageFault.{MessageFault}
 use Rattle.osm_messages.specs.declared.kind.ObjectKind.{ObjectKind}
@@ -6,7 +6,9 @@ use Rattle.osm_messages.specs.declared.kind.ObjectKind.TheVariants as kinds
 use Rattle.osm_messages.specs.Numbers.{shape_of, numbers_in}
 use Rattle.osm_messages.specs.Groups.{Object, HasNumbers}
 use Rattle.osm_messages.specs.Blocks.{Block}
-use Rattle.osm_messages.specs.Lists.{Lists, lists_of, listed}
+use Rattle.osm_messages.specs.declared.fields.TheConstants.{BLOCK_STRINGTABLE}
+use Rattle.osm_messages.specs.Lists.{Lists, number_lists, listed_numbers}
+use Rattle.osm_messages.specs.RawNumbers.{node_numbers, dense_numbers, way_numbers, relation_numbers}
 use Rattle.osm_model.specs.declared.nodes.OsmNode.{OsmNode}
 use Rattle.osm_model.specs.declared.ways.OsmWay.{OsmWay}
 use Rattle.osm_model.specs.declared.relations.OsmRelation.{OsmRelation}
@@ -14,9 +16,9 @@ use Rattle.osm_objects.specs.declared.fault.ObjectFault.{ObjectFault}
 use Rattle.osm_objects.specs.declared.fault.ObjectFault.TheVariants as faults
 use Rattle.osm_objects.specs.declared.scale.Scale.{Scale}
 use Rattle.osm_objects.specs.Steps.{◌>>=◌}
-use Rattle.osm_objects.specs.Nodes.{node_of, dense_of}
-use Rattle.osm_objects.specs.Ways.{way_of}
-use Rattle.osm_objects.specs.Relations.{relation_of}
+use Rattle.osm_objects.specs.Nodes.{decoded_node, decoded_dense_nodes}
+use Rattle.osm_objects.specs.Ways.{decoded_way}
+use Rattle.osm_objects.specs.Relations.{decoded_relation}
 
 -- ---- objects
 
@@ -46,29 +48,29 @@ joined before more = record {
   relations = before.relations ++ more.relations;
 }
 
-abbrev pub behind : Objects → Result Objects ObjectFault → Result Objects ObjectFault
-behind before given = given >>= λ more. Ok (joined before more)
+abbrev pub joined_behind : Objects → Result Objects ObjectFault → Result Objects ObjectFault
+joined_behind before given = given >>= λ more. Ok (joined before more)
 
 -- ---- one object
 
 abbrev pub spelled : Result Lists MessageFault → Lists
 spelled (Ok lists) = lists
-spelled (Err fault) = lists_of []
+spelled (Err fault) = number_lists []
 
 -- the numbers of an object, list by list; each object of a block spells them
 unfoldable pub lists_in : Object → Lists
-lists_in object = spelled (listed (numbers_in (shape_of object.kind) object.at object.bytes))
+lists_in object = spelled (listed_numbers (numbers_in (shape_of object.kind) object.at object.bytes))
 
 -- what the numbers of an object of a kind mean
 abbrev pub meaning_of : ObjectKind → List (List ℕ) → Scale → ℕ → Lists → Result Objects ObjectFault
-meaning_of kinds.Node table scale at lists = node_of table scale at lists >>= λ node. Ok (just_nodes (node ∷ []))
-meaning_of kinds.Dense table scale at lists = dense_of table scale at lists >>= λ nodes. Ok (just_nodes nodes)
-meaning_of kinds.Way table scale at lists = way_of table at lists >>= λ way. Ok (just_ways (way ∷ []))
-meaning_of kinds.Relation table scale at lists = relation_of table at lists >>= λ relation. Ok (just_relations (relation ∷ []))
+meaning_of kinds.Node table scale at lists = decoded_node table scale at (node_numbers lists) >>= λ node. Ok (just_nodes (node ∷ []))
+meaning_of kinds.DenseNodes table scale at lists = decoded_dense_nodes table scale at (dense_numbers lists) >>= λ nodes. Ok (just_nodes nodes)
+meaning_of kinds.Way table scale at lists = decoded_way table at (way_numbers lists) >>= λ way. Ok (just_ways (way ∷ []))
+meaning_of kinds.Relation table scale at lists = decoded_relation table at (relation_numbers lists) >>= λ relation. Ok (just_relations (relation ∷ []))
 
 -- one object more
 abbrev pub with_object : List (List ℕ) → Scale → Objects → Object → Result Objects ObjectFault
-with_object table scale before object = behind before (meaning_of object.kind table scale object.at (lists_in object))
+with_object table scale before object = joined_behind before (meaning_of object.kind table scale object.at (lists_in object))
 
 -- ---- the objects of a block
 
@@ -81,12 +83,12 @@ with_objects table scale before (object ∷ objects) = do
 abbrev pub scale_of : Block → Scale
 scale_of block = record { granularity = block.granularity; lat_offset = block.lat_offset; lon_offset = block.lon_offset }
 
--- the string table, field 1, which a block has to have
+-- the string table, which a block has to have
 abbrev pub table_of : ℕ → Option (List (List ℕ)) → Result (List (List ℕ)) ObjectFault
-table_of at None = Err (faults.MissingField at 1)
+table_of at None = Err (faults.MissingField at BLOCK_STRINGTABLE)
 table_of at (Some table) = Ok table
 
--- the objects of a block whose first byte stands at this place
+-- the objects of a PrimitiveBlock whose first byte stands at this offset
 unfoldable pub objects_of : ℕ → Block → Result Objects ObjectFault
 objects_of at block = do
   table ← table_of at block.texts

@@ -1,10 +1,10 @@
-//! Nodes in dense messages.
+//! DenseNodes.
 ghost use Rattle.std.specs.Prelude.{◌≡◌, ◌+◌, ◌<◌, ◌^◌, length, IsOk};
 ghost use Rattle.osm_model.specs.Extract.{tags_of_nodes};
-ghost use Rattle.osm_messages.specs.Lists.{seen_lists};
+ghost use Rattle.osm_messages.specs.RawNumbers.{seen_raw_dense};
 ghost use Rattle.osm_objects.specs.Groups.{groups_of};
 ghost use Rattle.osm_objects.specs.FirstGroups.{nodes_read};
-ghost use Rattle.osm_objects.specs.Nodes.{dense_of};
+ghost use Rattle.osm_objects.specs.Nodes.{decoded_dense_nodes};
 ghost use Rattle.osm_objects.specs.Answers.{Becomes, after};
 ghost use Rattle.osm_objects.specs.Seen.{table_of};
 
@@ -14,7 +14,7 @@ use crate::parts::check_even;
 use crate::scale::Scale;
 use crate::sums::sum_up;
 use crate::texts::Texts;
-use osm_messages::NumberLists;
+use osm_messages::RawDenseNodes;
 use osm_model::{Nodes, Tag};
 use std::alloc::Global;
 
@@ -26,8 +26,8 @@ pub struct Sums {
     pub lons: Vec<i64>,
 }
 
-/// Puts the nodes of these ids, places, keys and values behind the others. A fault of a text comes before one of a
-/// place. The message stands at `at`.
+/// Appends the nodes of these ids, coordinates, keys and values. A fault of a string comes before one of coordinates.
+/// The DenseNodes stands at `at`.
 fn add_nodes(
     alloc: Global,
     texts: &mut Texts<'_>,
@@ -61,28 +61,28 @@ fn add_nodes(
     }
 }
 
-#[tactic(auto, unfolding(crate::specs::Nodes::dense_of))]
-/// Puts the nodes of a dense message behind the others. Its first byte stands at `at`.
-pub fn add_dense(
+#[tactic(auto, unfolding(crate::specs::Nodes::decoded_dense_nodes))]
+/// Appends the nodes of a DenseNodes, whose first byte stands at `at`.
+pub fn add_dense_nodes(
     alloc: Global,
     texts: &mut Texts<'_>,
     scale: Scale,
     at: u64,
-    lists: &NumberLists,
+    dense: &RawDenseNodes<'_>,
     sums: &mut Sums,
     tags: &mut Vec<Tag>,
     nodes: &mut Nodes,
 ) -> Result<(), ObjectFault>
-    requires places { length nodes.now + length lists.now.first.items < 2 ^ 31 }
-    requires room { tags_of_nodes nodes.now + length lists.now.tenth.items < 2 ^ 31 }
-    ensures nodes { Becomes result nodes.new (after nodes.old (dense_of (table_of texts.old) scale at (seen_lists lists.now))) }
+    requires places { length nodes.now + length dense.now.id.now < 2 ^ 31 }
+    requires room { tags_of_nodes nodes.now + length dense.now.keys_vals.now < 2 ^ 31 }
+    ensures nodes { Becomes result nodes.new (after nodes.old (decoded_dense_nodes (table_of texts.old) scale at (seen_raw_dense dense.now))) }
     ensures table { table_of texts.new ≡ table_of texts.old }
 {
-    check_even(at, &lists.first, &lists.eighth)?;
-    check_even(at, &lists.first, &lists.ninth)?;
-    check_groups(at, lists.first.len(), &lists.tenth)?;
-    sum_up(at, &lists.first, &mut sums.ids)?;
-    sum_up(at, &lists.eighth, &mut sums.lats)?;
-    sum_up(at, &lists.ninth, &mut sums.lons)?;
-    add_nodes(alloc, texts, scale, at, sums, &lists.tenth, tags, nodes)
+    check_even(at, dense.id, dense.lat)?;
+    check_even(at, dense.id, dense.lon)?;
+    check_groups(at, dense.id.len(), dense.keys_vals)?;
+    sum_up(at, dense.id, &mut sums.ids)?;
+    sum_up(at, dense.lat, &mut sums.lats)?;
+    sum_up(at, dense.lon, &mut sums.lons)?;
+    add_nodes(alloc, texts, scale, at, sums, dense.keys_vals, tags, nodes)
 }

@@ -6,7 +6,7 @@ use std::alloc::{AllocError, AllocFailed};
 use std::error::Error;
 use std::fmt;
 
-/// The first fault of a block's objects, in their order. `at` is the place of the first byte of the object, and where
+/// The first fault of a block's objects, in their order. `at` is the offset of the first byte of the object, and where
 /// the string table is missing that of the block.
 #[derive(Clone, Copy, Debug, PartialEq, Eq)]
 pub enum ObjectFault {

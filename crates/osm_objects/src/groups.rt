@@ -1,4 +1,4 @@
-//! The keys and values of dense messages.
+//! The keys and values of DenseNodes: `keys_vals`.
 ghost use Rattle.std.specs.Prelude.{◌≡◌};
 ghost use Rattle.osm_objects.specs.Groups.{groups_of};
 ghost use Rattle.osm_objects.specs.FirstGroups.{group_read};
@@ -10,15 +10,15 @@ use crate::texts::Texts;
 use osm_model::Tag;
 use std::alloc::Global;
 
-/// Whether there is a group for each of so many nodes of the dense message at `at`.
-pub fn check_groups(at: u64, count: usize, numbers: &[u64]) -> Result<(), ObjectFault>
-    ensures { Admits result (groups_of at count numbers.now) }
+/// Checks that `keys_vals` has one group for each of `count` nodes. The DenseNodes stands at `at`.
+pub fn check_groups(at: u64, count: usize, keys_vals: &[u64]) -> Result<(), ObjectFault>
+    ensures { Admits result (groups_of at count keys_vals.now) }
 {
-    if numbers.is_empty() {
+    if keys_vals.is_empty() {
         return Ok(());
     }
     let mut groups: usize = 0;
-    let mut rest = numbers;
+    let mut rest = keys_vals;
     while let Some((key, behind)) = rest.split_first() {
         if *key == 0 {
             groups += 1;

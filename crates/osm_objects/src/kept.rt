@@ -1,9 +1,9 @@
 //! Which keys are kept.
 ghost use Rattle.std.specs.Prelude.{◌≡◌};
-ghost use Rattle.osm_objects.specs.KeptKeys.{is_among, road_keys, access_keys, relation_keys, is_kept};
+ghost use Rattle.osm_objects.specs.KeptKeys.{is_key_among, road_keys, access_keys, relation_keys, is_kept};
 
 fn is_road_key(key: &[u8]) -> bool
-    ensures { result ≡ is_among key.now road_keys }
+    ensures { result ≡ is_key_among key.now road_keys }
 {
     key == b"highway".as_slice()
         || key == b"area".as_slice()
@@ -17,7 +17,7 @@ fn is_road_key(key: &[u8]) -> bool
 }
 
 fn is_access_key(key: &[u8]) -> bool
-    ensures { result ≡ is_among key.now access_keys }
+    ensures { result ≡ is_key_among key.now access_keys }
 {
     key == b"access".as_slice()
         || key == b"vehicle".as_slice()
@@ -32,7 +32,7 @@ fn is_access_key(key: &[u8]) -> bool
 }
 
 fn is_relation_key(key: &[u8]) -> bool
-    ensures { result ≡ is_among key.now relation_keys }
+    ensures { result ≡ is_key_among key.now relation_keys }
 {
     key == b"type".as_slice() || key == b"except".as_slice() || key == b"restriction".as_slice()
 }

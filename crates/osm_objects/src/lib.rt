@@ -1,4 +1,4 @@
-//! What the messages of a data block mean: nodes, ways and relations with the tags that are kept, or the first fault.
+//! What the messages of a PrimitiveBlock mean: nodes, ways and relations with the tags that are kept, or the first fault.
 //! A block comes as `osm_messages` reads it, and the objects are those of `osm_model`.
 #![tactic(auto)]
 

@@ -1,7 +1,7 @@
 //! Nodes, one by one.
-ghost use Rattle.osm_messages.specs.Lists.{seen_lists};
+ghost use Rattle.osm_messages.specs.RawNumbers.{seen_raw_node};
 ghost use Rattle.std.specs.Prelude.{◌≡◌};
-ghost use Rattle.osm_objects.specs.Nodes.{node_of};
+ghost use Rattle.osm_objects.specs.Nodes.{decoded_node};
 ghost use Rattle.osm_objects.specs.Answers.{Answers};
 ghost use Rattle.osm_objects.specs.Seen.{table_of, node_with};
 
@@ -10,7 +10,8 @@ use crate::parts::{check_even, one_number};
 use crate::scale::Scale;
 use crate::tags::read_tags;
 use crate::texts::Texts;
-use osm_messages::NumberLists;
+use osm_messages::RawNode;
+use osm_messages::fields::{NODE_ID, NODE_LAT, NODE_LON};
 use osm_model::Tag;
 use std::alloc::Global;
 use wire_read::unzigzag;
@@ -23,24 +24,24 @@ pub struct Spot {
     pub lon: i32,
 }
 
-#[tactic(auto, unfolding(crate::specs::Nodes::node_of))]
-/// The node of these numbers; its tags are put into the list, in place of what it held. Its first byte stands at `at`.
+#[tactic(auto, unfolding(crate::specs::Nodes::decoded_node))]
+/// Decodes a node, whose first byte stands at `at`. Its tags are put into the list, in place of what it held.
 pub fn read_node(
     alloc: Global,
     texts: &mut Texts<'_>,
     scale: Scale,
     at: u64,
-    lists: &NumberLists,
+    node: &RawNode<'_>,
     tags: &mut Vec<Tag>,
 ) -> Result<Spot, ObjectFault>
-    ensures node { Answers (λ spot. node_with spot tags.new.items) result (node_of (table_of texts.old) scale at (seen_lists lists.now)) }
+    ensures node { Answers (λ spot. node_with spot tags.new.items) result (decoded_node (table_of texts.old) scale at (seen_raw_node node.now)) }
     ensures table { table_of texts.new ≡ table_of texts.old }
 {
-    let id = unzigzag(one_number(at, 1, &lists.first)?);
-    let lat = unzigzag(one_number(at, 8, &lists.eighth)?);
-    let lon = unzigzag(one_number(at, 9, &lists.ninth)?);
-    check_even(at, &lists.second, &lists.third)?;
-    read_tags(alloc, texts, at, &lists.second, &lists.third, tags)?;
+    let id = unzigzag(one_number(at, NODE_ID, node.id)?);
+    let lat = unzigzag(one_number(at, NODE_LAT, node.lat)?);
+    let lon = unzigzag(one_number(at, NODE_LON, node.lon)?);
+    check_even(at, node.keys, node.vals)?;
+    read_tags(alloc, texts, at, node.keys, node.vals, tags)?;
     match scale.place(lat, lon) {
         Some((lat, lon)) => Ok(Spot { id, lat, lon }),
         None => Err(ObjectFault::BadCoordinate { id }),

@@ -1,11 +1,10 @@
 //! What the fields of an object give before anything is known of their meaning.
-ghost use Rattle.std.specs.Prelude.{◌≡◌};
 ghost use Rattle.osm_objects.specs.Parts.{one_number, as_many};
 ghost use Rattle.osm_objects.specs.Answers.{Answers, Admits};
 
 use crate::fault::ObjectFault;
 
-/// The number of a field that the object at `at` has to have: the last of these counts.
+/// The last of a field's numbers, which is the one that counts. The object at `at` has to have the field.
 pub fn one_number(at: u64, field: u32, numbers: &[u64]) -> Result<u64, ObjectFault>
     ensures { Answers (λ n. n) result (one_number at field numbers.now) }
 {
@@ -15,7 +14,7 @@ pub fn one_number(at: u64, field: u32, numbers: &[u64]) -> Result<u64, ObjectFau
     Ok(numbers[numbers.len() - 1])
 }
 
-/// Whether two lists of the object at `at` are as long as one another.
+/// Checks that two lists have the same length. The object stands at `at`.
 pub fn check_even(at: u64, xs: &[u64], ys: &[u64]) -> Result<(), ObjectFault>
     ensures { Admits result (as_many at xs.now ys.now) }
 {

@@ -52,7 +52,7 @@ fn nanodegrees(granularity: i64, offset: i64, number: i64) -> i128
     i128::from(offset) + steps
 }
 
-/// So many units of 1e-9 degree in units of 1e-7 degree, rounded down.
+/// Units of 1e-9 degree to units of 1e-7 degree, rounded down.
 fn rounded_down(nanodegrees: i128) -> i128
     ensures { result ≡ int_div_euclid nanodegrees (pos 100) }
 {

@@ -10,7 +10,8 @@ use crate::texts::Texts;
 use osm_model::Tag;
 use std::alloc::Global;
 
-/// Puts the tags of these keys and values that are kept, of the object at `at`, into the list, in place of what it held.
+/// Puts the kept ones among the tags of these keys and values into the list, in place of what it held. The object
+/// stands at `at`.
 pub fn read_tags(
     alloc: Global,
     texts: &mut Texts<'_>,

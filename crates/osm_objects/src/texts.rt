@@ -1,5 +1,5 @@
 //! The string table of a block, and the texts that its objects share.
-ghost use Rattle.std.specs.Prelude.{◌≡◌, map, IfOk, is_ok};
+ghost use Rattle.std.specs.Prelude.{◌≡◌, map, IfOk};
 
 use crate::entry::Entry;
 use crate::fault::ObjectFault;
@@ -40,7 +40,7 @@ impl<'a> Texts<'a> {
         Ok(entry.is_kept())
     }
 
-    /// Whether there is a text with this index, which the object at `at` names.
+    /// Checks that there is a text with this index, which the object at `at` names.
     fn check_index(&self, at: u64, index: u64) -> Result<(), ObjectFault>
         ensures { Admits result (bytes_at (table_of self.now) at index) }
     {
@@ -62,7 +62,7 @@ impl<'a> Texts<'a> {
         entry.text(alloc, at, index)
     }
 
-    /// Puts the tag of this key and this value behind the others, where it is kept.
+    /// Appends the tag of this key and this value, where it is kept.
     pub fn add_tag(
         &mut self,
         alloc: Global,

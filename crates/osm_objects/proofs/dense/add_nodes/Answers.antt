@@ -11,10 +11,10 @@ use Rattle.osm_objects.proofs.Counted.{NodesSoFar, group-few, one-fits, NodesSoF
 use Rattle.osm_objects.proofs.dense.add_nodes.Goals as goal
 use Rattle.osm_objects.proofs.dense.add_nodes.Goals.{in-Some+in_ok-append_parts-in-Some, in-None}
 
-abbrev node_of : ℤ → ℤ → ℤ → List Tag → OsmNode
-node_of id lat lon tags = record { id = id; lat = lat; lon = lon; tags = tags }
+abbrev decoded_node : ℤ → ℤ → ℤ → List Tag → OsmNode
+decoded_node id lat lon tags = record { id = id; lat = lat; lon = lon; tags = tags }
 
-same_node : (id lat lon u v : ℤ) (tags : List Tag) → lat ≡ u → lon ≡ v → node_of id lat lon tags ≡ node_of id u v tags
+same_node : (id lat lon u v : ℤ) (tags : List Tag) → lat ≡ u → lon ≡ v → decoded_node id lat lon tags ≡ decoded_node id u v tags
 same_node id lat lon u v tags e f = rw (e, f) refl
 
 pub loop-i-init : goal.loop-i-init
@@ -52,7 +52,7 @@ loop-i-preserved c =
           let lon32 : FitsSigned w32 w.in-Some.lon = search rules in
           let id_is = to_z-of_z w64 _ id_fits ∙ get_or_read c.args.sums.now.ids.items c.loop-i.i _ (omega arith) w.index-in-Some.ensures (pos 0) in
           let node : OsmNode = record { id = to_z w64 (of_z w64 w.index-in-Some.result.now); lat = to_z w32 (of_z w32 w.in-Some.lat); lon = to_z w32 (of_z w32 w.in-Some.lon); tags = c.read_group.new.tags.items } in
-          let pushed = (w.nodes-is ∙ w.in_ok-append_parts-in-Some.ensures.ok ∙ ap (λ (t : List Tag). c.loop-i.nodes ++ node_of node.id node.lat node.lon t ∷ []) w.as_slice.ensures.value) in
+          let pushed = (w.nodes-is ∙ w.in_ok-append_parts-in-Some.ensures.ok ∙ ap (λ (t : List Tag). c.loop-i.nodes ++ decoded_node node.id node.lat node.lon t ∷ []) w.as_slice.ensures.value) in
           record {
             so_far = turn-placed (table_of c.args.texts.now) _ _ c.args.scale c.args.at _ c.loop-i.misplaced _ c.loop-i.nodes _ c.args.sums.now.ids.items c.args.sums.now.lats.items c.args.sums.now.lons.items c.loop-i.i c.loop-i.rest.now c.in_ok-rest.rest.now c.read_group.new.tags.items
                 (to_z w64 (of_z w64 w.index-in-Some.result.now)) (to_z w64 (of_z w64 c.index.result.now)) (to_z w64 (of_z w64 c.index-in-loop-i.result.now)) node

@@ -4,7 +4,7 @@ use Rattle.osm_messages.specs.Passes.{behind, pass_step}
 use Rattle.osm_messages.specs.Seen.{seen_object}
 use Rattle.osm_messages.proofs.Walks.{Going, left_of}
 use Rattle.osm_messages.proofs.Members.{objects_of}
-use Rattle.osm_messages.proofs.group.read_group.Given as goal
+use Rattle.osm_messages.proofs.group.read_primitive_group.Given as goal
 
 abbrev pub invariant-loop-field : goal.invariant-loop-field
 invariant-loop-field l =

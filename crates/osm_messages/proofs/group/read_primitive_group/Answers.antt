@@ -4,7 +4,7 @@ use Rattle.osm_messages.specs.Seen.{seen_object}
 use Rattle.osm_messages.proofs.Exits.{Becomes-exit, Becomes-wire}
 use Rattle.osm_messages.proofs.Walks.{Going-ok, Going-stop, Going-fault, Going-end}
 use Rattle.osm_messages.proofs.Members.{group-begun, objects_of}
-use Rattle.osm_messages.proofs.group.read_group.Goals as goal
+use Rattle.osm_messages.proofs.group.read_primitive_group.Goals as goal
 
 pub loop-field-init : goal.loop-field-init
 loop-field-init c =

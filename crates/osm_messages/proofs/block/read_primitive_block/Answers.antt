@@ -4,7 +4,7 @@ use Rattle.osm_messages.proofs.Walks.{Going-ok, Going-stop, Going-fault, Going-e
 use Rattle.osm_messages.proofs.Begun.{block-begun}
 use Rattle.osm_messages.proofs.Kept.{all_spelled}
 use Rattle.osm_messages.proofs.Weights.{block_in-few}
-use Rattle.osm_messages.proofs.block.read_block.Goals as goal
+use Rattle.osm_messages.proofs.block.read_primitive_block.Goals as goal
 
 pub loop-field-init : goal.loop-field-init
 loop-field-init c =
