@@ -4,7 +4,7 @@ use Rattle.std.specs.Option.{option_map}
 use Rattle.host_port.specs.Told.{Told}
 use Rattle.host_port.specs.Faults.{Rose}
 
--- the bytes said grew by these
+-- these bytes were appended to the output
 abbrev pub Adds : List ℕ → Told → Told → Type 0
 Adds text old new = new.said ≡ option_map (λ said. said ++ text) old.said
 

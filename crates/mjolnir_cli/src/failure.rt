@@ -74,7 +74,7 @@ impl Failure {
         Ok(line)
     }
 
-    /// What a fault of the host is to a command that puts a file.
+    /// Converts a fault of the host into a failure of a command that puts a file.
     pub(crate) fn of_put(fault: HostFault) -> Failure
         ensures { result ≡ of_put fault }
     {

@@ -25,7 +25,7 @@ use road_pieces::list_agrees;
 use std::alloc::Global;
 use std::thread::Threads;
 
-/// Does what the words ask for, and answers the status that the program ends with.
+/// Runs the command that the arguments name and returns the exit status.
 ///
 /// | Status | Meaning |
 /// |---|---|
@@ -39,8 +39,8 @@ use std::thread::Threads;
 /// | 9 | the host counted a fault of saying, so that the text is lost |
 ///
 /// On 2 to 6 one line is said; where the host fails to say it, it is lost and the status stays. On 2, 3, 5 and 6
-/// no file is put. Want of memory may come in place of each other status: it is the one answer that has no cause
-/// here.
+/// no file is put. Out of memory (7) can occur instead of any other status: it is the one answer that has no
+/// cause here.
 pub fn mjolnir<R: Threads + Sync, H: Host, G: Gate>(
     _rt: &R,
     alloc: Global,

@@ -5,6 +5,7 @@ use Rattle.std.specs.Ordering.{int_eq}
 use Rattle.osm_model.specs.declared.nodes.OsmNode.{OsmNode}
 use Rattle.osm_model.specs.declared.ways.OsmWay.{OsmWay}
 use Rattle.osm_model.specs.declared.extract.Extract.{Extract}
+use Rattle.osm_model.specs.declared.limits.TheConstants.{MOST_REFS}
 use Rattle.road_pieces.specs.Rules.{is_routable}
 use Rattle.road_pieces.specs.Runs.{has_node, is_junction}
 
@@ -75,7 +76,7 @@ all_lines x = lines_after x.nodes 0 x.ways
 pub record IsSound (x : Extract) (line : Line) : Type 0 where
   pub way : line.way < length x.ways
   pub places : All (λ p. p < length x.nodes) line.places
-  pub short : length line.places ≤ 20_000_000
+  pub short : length line.places ≤ MOST_REFS
   pub begins : 0 < length line.places → is_junction x (id_at x.nodes (slice_index line.places 0)) ≡ true
 
 -- how often a place counts in a line: once for each place of the line where it stands, and once more for each

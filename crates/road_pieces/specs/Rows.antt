@@ -10,6 +10,7 @@ use Rattle.road_pieces.specs.declared.rows.Junction.{Junction}
 use Rattle.road_pieces.specs.declared.rows.Piece.{Piece}
 use Rattle.road_pieces.specs.declared.faults.CutFault.{CutFault}
 use Rattle.road_pieces.specs.declared.faults.CutFault.TheVariants.{TooManyPieces, EdgeTooLong}
+use Rattle.road_pieces.specs.declared.limits.TheConstants.{MOST_PIECES, LONGEST_PIECE_CM}
 use Rattle.road_pieces.specs.Rules.{is_routable, is_barrier, class_of, forward_access, backward_access, node_access, names_of}
 use Rattle.road_pieces.specs.Runs.{has_node, way_runs, is_junction}
 use Rattle.road_pieces.specs.Lengths.{point_of, point}
@@ -88,4 +89,4 @@ abbrev pub too_long : Piece → CutFault
 too_long p = EdgeTooLong p.key.way p.key.run p.key.piece p.cm
 
 abbrev pub refusal : List Piece → Option CutFault
-refusal pieces = if nat_lt 4_000_000 (length pieces) then Some (TooManyPieces (length pieces)) else option_map too_long (find (λ p. nat_lt 268_435_455 p.cm) pieces)
+refusal pieces = if nat_lt MOST_PIECES (length pieces) then Some (TooManyPieces (length pieces)) else option_map too_long (find (λ p. nat_lt LONGEST_PIECE_CM p.cm) pieces)

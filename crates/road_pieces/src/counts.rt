@@ -1,6 +1,7 @@
 //! How many pieces there are, and how many places.
 
 ghost use Rattle.std.specs.Prelude.{◌≡◌, ◌<◌, ◌≤◌, length, All};
+ghost use Rattle.osm_model.specs.declared.limits.TheConstants.{MOST_REFS};
 ghost use Rattle.road_pieces.specs.Counts.{pieces_in, pieces_of_lines, places_of_lines};
 
 use crate::lines::Lines;
@@ -8,7 +9,7 @@ use crate::lines::Lines;
 /// The number of pieces of all lines, each of which begins at a junction.
 pub(crate) fn count_pieces(lines: &Lines, flags: &[bool]) -> u64
     requires inside { All (λ l. All (λ p. p < length flags.now) l.places) lines.now.done }
-    requires short { places_of_lines lines.now.done ≤ 20_000_000 }
+    requires short { places_of_lines lines.now.done ≤ MOST_REFS }
     ensures { result ≡ pieces_of_lines flags.now lines.now.done }
 {
     let mut count = 0;
@@ -35,7 +36,7 @@ fn count_line(places: &[u32], flags: &[bool]) -> u64
 
 /// The number of places of all lines.
 pub(crate) fn count_places(lines: &Lines) -> u64
-    requires { places_of_lines lines.now.done ≤ 20_000_000 }
+    requires { places_of_lines lines.now.done ≤ MOST_REFS }
     ensures { result ≡ places_of_lines lines.now.done }
 {
     let mut count = 0;

@@ -3,6 +3,7 @@
 ghost use Rattle.std.specs.Prelude.{◌≡◌, ◌<◌, ◌≤◌, ◌++◌, length, map, All, OnOk};
 ghost use Rattle.fixed_geo.specs.Place.{IsPlace};
 ghost use Rattle.osm_model.specs.Grew.{Grew};
+ghost use Rattle.osm_model.specs.declared.limits.TheConstants.{MOST_REFS};
 ghost use Rattle.road_pieces.specs.Rows.{course_cm};
 ghost use Rattle.road_pieces.specs.Parts.{point_at};
 
@@ -41,7 +42,7 @@ fn point_at(nodes: &Nodes, place: u32) -> Point
 /// The length of a course in centimetres: the sum of the lengths of its segments.
 pub(crate) fn length_of(points: &[Point]) -> u64
     requires placed { All IsPlace points.now }
-    requires short { length points.now ≤ 20_000_000 }
+    requires short { length points.now ≤ MOST_REFS }
     ensures { result ≡ course_cm points.now }
 {
     let mut cm = 0;

@@ -51,7 +51,7 @@ fn flag_nodes(alloc: Global, extract: &Extract, marks: &[u8]) -> Result<Vec<bool
     Ok(flags)
 }
 
-/// Whether a node that counts so often, up to two, is a junction. Its tags are looked up only where they decide.
+/// Whether a node with this count (capped at 2) is a junction. Its tags are looked up only where they decide.
 fn is_crossing(mark: u8, node: &NodeView<'_>) -> bool
     ensures { result ≡ (nat_le 2 mark || (is_barrier node.now.tags && nat_le 1 mark)) }
 {

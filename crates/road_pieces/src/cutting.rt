@@ -5,6 +5,7 @@ ghost use Rattle.osm_model.specs.declared.nodes.OsmNode.{OsmNode};
 ghost use Rattle.road_pieces.specs.declared.faults.CutFault.{CutFault};
 ghost use Rattle.road_pieces.specs.Runs.{is_junction};
 ghost use Rattle.road_pieces.specs.RoadsOf.{RoadsOf};
+ghost use Rattle.road_pieces.specs.declared.limits.TheConstants.{MOST_PIECES, LONGEST_PIECE_CM};
 ghost use Rattle.road_pieces.specs.Lines.{all_lines};
 ghost use Rattle.road_pieces.specs.Parts.{line_rows};
 ghost use Rattle.road_pieces.specs.Rows.{junction_row, junction_rows, piece_rows, too_long, refusal};
@@ -12,6 +13,7 @@ ghost use Rattle.road_pieces.specs.Rows.{junction_row, junction_rows, piece_rows
 use crate::counts::{count_pieces, count_places};
 use crate::crossings::find_junctions;
 use crate::faults::CutFault;
+use crate::limits::{LONGEST_PIECE_CM, MOST_PIECES};
 use crate::lines::Lines;
 use crate::parts::cut_line;
 use crate::pieces::{DraftPieces, Pieces};
@@ -21,12 +23,6 @@ use crate::survey::{Survey, find_lines};
 use fixed_geo::Point;
 use osm_model::{Extract, NodeView};
 use std::alloc::{AllocError, Global};
-
-/// The most pieces that roads may have.
-const MOST_PIECES: u64 = 4_000_000;
-
-/// The greatest length of a piece in centimetres.
-const LONGEST: u64 = 268_435_455;
 
 /// The roads of an extract: its junctions in order of OSM id, and the pieces between them in order of key.
 ///
@@ -75,7 +71,7 @@ fn cut_lines(
 ) -> Result<Pieces, AllocError>
     requires flagged { flags.now ≡ map (λ n. is_junction extract.now n.id) extract.now.nodes }
     requires found { lines.now.done ≡ all_lines extract.now }
-    requires few { count ≤ 4_000_000 }
+    requires few { count ≤ MOST_PIECES }
     ensures { IfOk result (λ pieces. pieces ≡ flat_map (line_rows extract.now) (all_lines extract.now)) }
 {
     // The pieces of a line have its points, and those between two pieces twice.
@@ -89,11 +85,11 @@ fn cut_lines(
 
 /// Why the first piece that is too long is refused.
 fn first_too_long(pieces: &Pieces) -> Option<CutFault>
-    ensures { result ≡ option_map too_long (find (λ p. nat_lt 268_435_455 p.cm) pieces.now) }
+    ensures { result ≡ option_map too_long (find (λ p. nat_lt LONGEST_PIECE_CM p.cm) pieces.now) }
 {
     for i in 0..pieces.len() {
         let piece = pieces.at(i);
-        if piece.cm() > LONGEST {
+        if piece.cm() > LONGEST_PIECE_CM {
             let key = piece.key();
             return Some(CutFault::EdgeTooLong {
                 way: key.way,

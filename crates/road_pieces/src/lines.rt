@@ -58,7 +58,7 @@ impl Lines {
         })
     }
 
-    /// Goes on with the begun run to a place, unless it is there already.
+    /// Appends a node to the open run, unless it repeats the last one.
     pub fn extend(&mut self, place: u32) -> Result<(), AllocError>
         ensures done { self.new.done ≡ self.old.done }
         ensures begun { OnOk result (self.new.begun ≡ extend self.old.begun place) }

@@ -2,6 +2,7 @@
 
 ghost use Rattle.std.specs.Prelude.{◌≡◌, ◌<◌, ◌≤◌, ◌+◌, ◌-◌, ◌++◌, true, false, length, replicate, IfOk, OnOk, IfSome, IfNone};
 ghost use Rattle.osm_model.specs.Extract.{NodesRise};
+ghost use Rattle.osm_model.specs.declared.limits.TheConstants.{MOST_NODES};
 ghost use Rattle.road_pieces.specs.Runs.{has_node};
 ghost use Rattle.road_pieces.specs.Lines.{place_of};
 ghost use Rattle.road_pieces.specs.NodeIndex.{bucket_of, BeginsAt, TakesBuckets, IsIndex};
@@ -27,7 +28,7 @@ impl NodeIndex {
     /// Makes the index, in one pass over the nodes.
     pub fn new(alloc: Global, nodes: &Nodes) -> Result<NodeIndex, AllocError>
         requires rises { NodesRise nodes.now }
-        requires few { length nodes.now ≤ 10_000_000 }
+        requires few { length nodes.now ≤ MOST_NODES }
         ensures { IfOk result (λ index. IsIndex nodes.now index.first index.shift index.starts.items) }
     {
         let first = first_id(nodes);
@@ -66,7 +67,7 @@ impl NodeIndex {
     }
 }
 
-/// The bucket of an id. An id below the first has one too, in which it isn't found.
+/// The bucket of an id. An id below the first maps to a bucket too, but isn't found there.
 fn bucket(first: i64, shift: u32, id: &i64) -> u64
     requires { shift < 64 }
     ensures { result ≡ bucket_of first shift id.now }

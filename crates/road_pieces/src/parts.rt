@@ -2,6 +2,7 @@
 
 ghost use Rattle.std.specs.Prelude.{◌≡◌, ◌<◌, ◌≤◌, ◌+◌, ◌*◌, ◌++◌, ◌∷◌, [], length, map, All, OnOk};
 ghost use Rattle.osm_model.specs.OsmNode.{IsPlaced};
+ghost use Rattle.osm_model.specs.declared.limits.TheConstants.{MOST_REFS};
 ghost use Rattle.road_pieces.specs.Lines.{Line, IsSound};
 ghost use Rattle.road_pieces.specs.Rules.{class_of, forward_access, backward_access, names_of};
 ghost use Rattle.road_pieces.specs.Runs.{is_junction};
@@ -28,7 +29,7 @@ fn add_piece(
     requires placed { All IsPlaced nodes.now }
     requires inside { All (λ p. p < length nodes.now) places.now }
     requires some { 0 < length places.now }
-    requires short { length places.now ≤ 20_000_000 }
+    requires short { length places.now ≤ MOST_REFS }
     requires class { road.class ≡ class_of way.now.tags }
     requires forward { road.forward ≡ forward_access way.now.tags }
     requires backward { road.backward ≡ backward_access way.now.tags }
@@ -66,8 +67,8 @@ pub(crate) fn cut_line(
 ) -> Result<(), AllocError>
     requires flagged { flags.now ≡ map (λ n. is_junction extract.now n.id) extract.now.nodes }
     requires sound { IsSound extract.now (record { way = line.now.way; number = line.now.number; places = line.now.places.now }) }
-    requires room { pieces.old.points + 2 * length line.now.places.now ≤ 40_000_000 }
-    requires names_room { pieces.old.named ≤ 40_000_000 }
+    requires room { pieces.old.points + 2 * length line.now.places.now ≤ 2 * MOST_REFS }
+    requires names_room { pieces.old.named ≤ 2 * MOST_REFS }
     ensures done { OnOk result (pieces.new.done ≡ pieces.old.done ++ line_rows extract.now (record { way = line.now.way; number = line.now.number; places = line.now.places.now })) }
     ensures points { OnOk result (pieces.new.points ≤ pieces.old.points + 2 * length line.now.places.now) }
     ensures named { OnOk result (pieces.new.named ≤ pieces.old.named + 2) }

@@ -2,6 +2,7 @@
 
 ghost use Rattle.std.specs.Prelude.{◌≡◌, ◌<◌, ◌≤◌, ◌+◌, ◌↔◌, ◌++◌, ◌∷◌, [], length, All, IfOk, OnOk, IsTrue, slice_index_or};
 ghost use Rattle.osm_model.specs.OsmNode.{IsPlaced};
+ghost use Rattle.osm_model.specs.declared.limits.TheConstants.{MOST_REFS};
 ghost use Rattle.road_pieces.specs.PieceRows.{piece_over};
 
 use crate::courses::{add_course, length_of};
@@ -89,7 +90,7 @@ impl DraftPieces {
     pub fn push(&mut self, head: PieceHead, nodes: &Nodes, places: &[u32]) -> Result<(), AllocError>
         requires placed { All IsPlaced nodes.now }
         requires inside { All (λ p. p < length nodes.now) places.now }
-        requires short { length places.now ≤ 20_000_000 }
+        requires short { length places.now ≤ MOST_REFS }
         requires room { self.old.points + length places.now ≤ 4_294_967_295 }
         ensures done { OnOk result (self.new.done ≡ self.old.done ++ piece_over nodes.now head places.now self.old.names ∷ []) }
         ensures points { OnOk result (self.new.points ≡ self.old.points + length places.now) }

@@ -2,6 +2,7 @@
 
 ghost use Rattle.std.specs.Prelude.{◌≡◌, ◌<◌, ◌≤◌, ◌+◌, ◌++◌, ◌∷◌, [], length, not, count_by, IfOk, OnOk};
 ghost use Rattle.osm_model.specs.Extract.{NodesRise, refs_in};
+ghost use Rattle.osm_model.specs.declared.limits.TheConstants.{MOST_NODES, MOST_REFS};
 ghost use Rattle.road_pieces.specs.Runs.{has_node};
 ghost use Rattle.road_pieces.specs.Lines.{lines_from, all_lines};
 ghost use Rattle.road_pieces.specs.NodeIndex.{IsIndex};
@@ -49,7 +50,7 @@ pub(crate) fn find_lines(alloc: Global, extract: &Extract) -> Result<Survey, All
 
 /// The number of refs of all ways.
 fn count_refs(ways: &Ways) -> usize
-    requires { refs_in ways.now ≤ 20_000_000 }
+    requires { refs_in ways.now ≤ MOST_REFS }
     ensures { result ≡ refs_in ways.now }
 {
     let mut count = 0;
@@ -68,9 +69,9 @@ fn add_way(
     refs: &[i64],
 ) -> Result<u64, AllocError>
     requires rises { NodesRise nodes.now }
-    requires few { length nodes.now ≤ 10_000_000 }
+    requires few { length nodes.now ≤ MOST_NODES }
     requires index { IsIndex nodes.now index.now.first index.now.shift index.now.starts.items }
-    requires short { length refs.now ≤ 20_000_000 }
+    requires short { length refs.now ≤ MOST_REFS }
     requires whole { lines.old.begun ≡ [] }
     ensures done { OnOk result (lines.new.done ≡ lines.old.done ++ lines_from nodes.now way 0 [] refs.now) }
     ensures begun { OnOk result (lines.new.begun ≡ []) }
