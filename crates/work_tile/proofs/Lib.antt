@@ -4,3 +4,4 @@ mod EdgeBack
 mod NodeBack
 mod NodesOver
 mod TilePut
+mod Found

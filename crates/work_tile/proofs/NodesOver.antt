@@ -11,7 +11,7 @@ unfolding nodes_over
 many_nodes edges [] = refl
 many_nodes edges (r ∷ rs) = ap suc (many_nodes edges rs)
 
--- ---- the node at a place
+-- ---- the node at an index
 
 pub first_inside : (rows : List NodeRow) (end : ℕ) → FromsRise rows end → first_from rows end ≤ end
 unfolding FromsRise
@@ -32,7 +32,7 @@ within [] end i e rises h = absurd (omega (arith, h))
 within (r ∷ rs) end zero e rises h = (rises.0, first_inside rs end rises.1)
 within (r ∷ rs) end (suc i) e rises h = within rs end i e rises.1 (omega (arith, h))
 
--- the row that was read at a place, and where its edges end
+-- the row that was read at an index, and where its edges end
 module _ (rows : List NodeRow) (i end to : ℕ) (row : NodeRow) (inside : i < length rows) (here : row ≡ get_or rows i row)
     (ends : to ≡ first_from (drop (i + 1) rows) end) where
   ends_next : to ≡ first_from (drop (suc i) rows) end

@@ -1,4 +1,4 @@
--- Rows in a list of words: how many they are, the row at a place, and one row more.
+-- Rows in a list of words: how many they are, the row at an index, and one row more.
 use Rattle.std.proofs.Common.{◌≡◌, ℕ, zero, suc, ◌+◌, ◌*◌, ◌<◌, ◌≤◌, List, [], ◌∷◌, ◌++◌, length, take, drop, get_or, refl, ap, ◌∙◌, arith}
 use Rattle.std.proofs.lemmas.List.{take_all, take-append-le, drop-append-le, drop-drop, length-drop, nil_from_length}
 use Rattle.work_tile.specs.PackedRows.{packed_rows}

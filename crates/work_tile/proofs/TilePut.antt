@@ -34,11 +34,11 @@ edges_rise (Err u) rows edges more edge ok err rises = subst (λ es. FromsRise r
 
 pub edge_put : {A B : Type 0} (r : Result A B) (level tile : ℕ) (rows : List NodeRow) (edges more : List WorkEdge) (edge : WorkEdge) (before : WorkRows)
     → rows_with level tile (nodes_over edges rows) ≡ before → OnOk r (more ≡ edges ++ edge ∷ []) → FromsRise rows (length edges)
-    → (front : List WorkNode) (last : WorkNode) → before.nodes ≡ front ++ last ∷ []
-    → OnOk r (rows_with level tile (nodes_over more rows) ≡ record before { nodes = front ++ with_edge last edge ∷ [] })
-edge_put (Ok u) level tile rows edges more edge before is ok rises front last e =
+    → OnOk r ((front : List WorkNode) (last : WorkNode) → before.nodes ≡ front ++ last ∷ []
+    → rows_with level tile (nodes_over more rows) ≡ record before { nodes = front ++ with_edge last edge ∷ [] })
+edge_put (Ok u) level tile rows edges more edge before is ok rises = λ front last e.
     let all : nodes_over edges rows ≡ front ++ last ∷ [] = ap (λ b. b.nodes) is ∙ e in
     ap (λ es. rows_with level tile (nodes_over es rows)) ok
     ∙ ap (rows_with level tile) (edge_more edges edge rows front last rises all)
     ∙ ap (λ b. rows_with b.level b.tile (front ++ with_edge last edge ∷ [])) is
-edge_put (Err u) level tile rows edges more edge before is ok rises front last e = tt
+edge_put (Err u) level tile rows edges more edge before is ok rises = tt

@@ -2,3 +2,4 @@ pub mod PackedRows
 pub mod EdgeWords
 pub mod NodeWords
 pub mod WorkRows
+pub mod Places

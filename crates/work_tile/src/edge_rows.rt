@@ -12,11 +12,11 @@ const WIDTH: usize = 5;
 
 /// A directed piece, at the junction where it starts. `end` is the OSM id of the junction where it ends, and
 /// `end_tile` the number of the tile where that stands, on the level of the tile that has the edge. `cm` is its
-/// length in centimetres, and `local` its place among the directed pieces that start at its junction.
+/// length in centimetres, and `local` its index among the directed pieces that start at its junction.
 /// `forward_access` has a bit for each mode that may use it as it runs, `reverse_access` for each that may use it
-/// the other way. `class` is from 0, motorway, to 7. `mask` has a bit for each directed piece, by its place at
-/// the end, to which no vehicle may turn. `flagged` tells that a longer turn that is forbidden runs over its
-/// piece.
+/// the other way: auto 1, pedestrian 2, bicycle 4, truck 8, bus 64. `class` is from 0, motorway, to 7. `mask` has a
+/// bit for each directed piece, by its local index at the end, to which no vehicle may turn. `flagged` tells that a
+/// longer turn that is forbidden runs over its piece.
 #[derive(Clone, Copy, Debug, PartialEq, Eq)]
 pub struct WorkEdge {
     pub key: DirKey,
@@ -138,7 +138,7 @@ impl EdgeRows {
         self.count
     }
 
-    /// The edge at place `i`.
+    /// The edge at index `i`.
     pub fn at(&self, i: usize) -> WorkEdge
         requires { i < length self.now }
         ensures { result ≡ slice_index_or self.now i result }

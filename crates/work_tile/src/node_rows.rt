@@ -18,8 +18,8 @@ pub(crate) struct NodeRow {
     pub from: u32,
 }
 
-/// The place of the junction.
-fn place_word(row: &NodeRow) -> u64
+/// The position of the junction.
+fn position_word(row: &NodeRow) -> u64
     ensures { result ≡ work_node_word row.now 1 }
 {
     u64::from(row.junction.at.lat.cast_unsigned())
@@ -42,7 +42,7 @@ fn words_of(row: &NodeRow) -> [u64; WIDTH]
 {
     [
         row.junction.osm.cast_unsigned(),
-        place_word(row),
+        position_word(row),
         access_word(row),
     ]
 }
@@ -106,7 +106,7 @@ impl NodeRows {
         self.count
     }
 
-    /// The row at place `i`.
+    /// The row at index `i`.
     pub fn at(&self, i: usize) -> NodeRow
         requires { i < length self.now }
         ensures { result ≡ slice_index_or self.now i result }

@@ -30,7 +30,7 @@ impl Model for TileRows {
     ghost invariant = { λ t. FromsRise t.nodes (length t.edges) };
 }
 
-/// Where the edges of the node behind place `i` begin, or else the end of all edges.
+/// Where the edges of the node behind index `i` begin, or else the end of all edges.
 fn edges_end(nodes: &NodeRows, edges: &EdgeRows, i: usize) -> usize
     requires { i < length nodes.now }
     ensures { result ≡ first_from (drop (i + 1) nodes.now) (length edges.now) }
@@ -76,8 +76,8 @@ impl TileRows {
     /// Puts an edge behind those of the last node. Without memory the tile stays as it was.
     pub fn push_edge(&mut self, edge: WorkEdge) -> Result<(), AllocError>
         requires some { 1 ≤ length self.old.nodes }
-        ensures ok { (front : List WorkNode) (last : WorkNode) → self.old.nodes ≡ front ++ last ∷ []
-            → OnOk result (self.new ≡ record self.old { nodes = front ++ with_edge last edge ∷ [] }) }
+        ensures ok { OnOk result ((front : List WorkNode) (last : WorkNode) → self.old.nodes ≡ front ++ last ∷ []
+            → self.new ≡ record self.old { nodes = front ++ with_edge last edge ∷ [] }) }
         ensures err { OnErr result (self.new ≡ self.old) }
     {
         self.edges.push(edge)
@@ -104,7 +104,7 @@ impl TileRows {
         self.nodes.len()
     }
 
-    /// The node at place `i`.
+    /// The node at index `i`.
     pub fn node(&self, i: usize) -> NodeView<'_>
         requires { i < length self.now.nodes }
         ensures { result ≡ slice_index_or self.now.nodes i result }
@@ -154,7 +154,7 @@ impl<'a> NodeView<'a> {
         self.junction.osm
     }
 
-    /// Its place.
+    /// Its position.
     pub fn at(&self) -> Point
         ensures { result ≡ self.now.at }
     {
@@ -182,7 +182,7 @@ impl<'a> NodeView<'a> {
         self.to - self.from
     }
 
-    /// The edge at place `k` among those that start there.
+    /// The edge at index `k` among those that start there.
     pub fn edge(&self, k: usize) -> WorkEdge
         requires { k < length self.now.edges }
         ensures { result ≡ slice_index_or self.now.edges k result }

@@ -5,4 +5,4 @@ pub invariant_of-self : goal.invariant_of-self
 invariant_of-self c = edges_rise c.push.result c.self.inside.nodes c.self.inside.edges c.push.new.self c.args.edge c.push.ensures.ok c.push.ensures.err c.self.invariant
 
 pub returns-clause-ok : goal.returns-clause-ok
-returns-clause-ok c = λ front last e. edge_put c.push.result c.self.inside.level c.self.inside.tile c.self.inside.nodes c.self.inside.edges c.push.new.self c.args.edge _ c.self.view_is c.push.ensures.ok c.self.invariant front last e
+returns-clause-ok c = edge_put c.push.result c.self.inside.level c.self.inside.tile c.self.inside.nodes c.self.inside.edges c.push.new.self c.args.edge _ c.self.view_is c.push.ensures.ok c.self.invariant

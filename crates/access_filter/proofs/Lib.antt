@@ -1,0 +1,3 @@
+mod Filtered
+mod EdgesPut
+mod NodesKept
