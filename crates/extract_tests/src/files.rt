@@ -1,8 +1,6 @@
-use osm_blocks::{Counted, Counts, ExtractFault, count, first_past, read_extract};
 use host_port::{Bytes, Host, MemHost, Text};
-use osm_messages::read_block;
+use osm_blocks::{Counted, ExtractFault, read_extract};
 use osm_model::{Extract, MemberKind, TagText};
-use osm_objects::{ObjectLists, add_objects};
 use std::alloc::{AllocError, Global};
 use std::ops::Range;
 use std::test::Fail;
@@ -366,33 +364,6 @@ fn places(rt: HostRuntime) -> Result<(), Fail> {
     Ok(())
 }
 
-// The counts at their limits, with so many more of each.
-fn past_by(more: [u64; 6]) -> Option<(Counted, u64)> {
-    first_past(&Counts {
-        nodes: 10_000_000 + more[0].min(9),
-        ways: 2_000_000 + more[1].min(9),
-        relations: 500_000 + more[2].min(9),
-        refs: 20_000_000 + more[3].min(9),
-        members: 20_000_000 + more[4].min(9),
-        tags: 20_000_000 + more[5].min(9),
-    })
-}
-
-#[test]
-fn limits(rt: HostRuntime) {
-    for (more, past) in [
-        ([0, 0, 0, 0, 0, 0], None),
-        ([1, 1, 1, 1, 1, 1], Some((Counted::Nodes, 10_000_001))),
-        ([0, 1, 1, 1, 1, 1], Some((Counted::Ways, 2_000_001))),
-        ([0, 0, 2, 1, 1, 1], Some((Counted::Relations, 500_002))),
-        ([0, 0, 0, 1, 1, 1], Some((Counted::Refs, 20_000_001))),
-        ([0, 0, 0, 0, 1, 1], Some((Counted::Members, 20_000_001))),
-        ([0, 0, 0, 0, 0, 1], Some((Counted::Tags, 20_000_001))),
-    ] {
-        assert!(rt; past_by(more) == past, "{more:?}");
-    }
-}
-
 // A number below 2^21 in three bytes, longer than need be where it is small.
 fn push_number(bytes: &mut Vec<u8>, number: u64) -> Result<(), AllocError> {
     bytes.push((number % 128) as u8 + 128)?;
@@ -451,41 +422,6 @@ fn one_of_too_many_twice(rt: HostRuntime) -> Result<(), Fail> {
     };
     assert_eq!(rt; relations_read(rt.alloc(), 249_999..500_000)?, Err(twice));
     Ok(())
-}
-
-// A table of "" and `bus`; nodes 1 to 3 with one tag, ways 1 and 2 with two tags and three refs, and relation 1 with
-// four tags and five members.
-const COUNTED: [u8; 97] =
-    *b"\x0a\x07\x0a\x00\x0a\x03bus\x12\x18\x12\x16\x0a\x03\x02\x02\x02\x42\x03\x00\x00\x00\x4a\x03\x00\x00\x00\x52\x05\x00\x01\x01\x00\x00\x12\x15\x1a\x0f\x08\x01\x12\x02\x01\x01\x1a\x02\x00\x00\x42\x03\x02\x02\x02\x1a\x02\x08\x02\x12\x25\x22\x23\x08\x01\x12\x04\x01\x01\x01\x01\x1a\x04\x00\x00\x00\x00\x42\x05\x00\x00\x00\x00\x00\x4a\x05\x02\x02\x02\x02\x02\x52\x05\x00\x01\x02\x00\x01";
-
-// The counts of that block's nodes, ways, relations, refs, members and tags.
-fn counts_of(alloc: Global, block: &[u8]) -> Option<[u64; 6]> {
-    if block.len() > 1_000_000 {
-        return None;
-    }
-    let Ok(raw) = read_block(alloc, block, 0) else {
-        return None;
-    };
-    let mut lists = ObjectLists::new(alloc);
-    if add_objects(alloc, &raw, 0, &mut lists).is_err() {
-        return None;
-    }
-    let counts = count(&lists);
-    Some([
-        counts.nodes,
-        counts.ways,
-        counts.relations,
-        counts.refs,
-        counts.members,
-        counts.tags,
-    ])
-}
-
-// The kept tags are 1 of nodes, 2 of ways and 4 of relations.
-#[test]
-fn counts(rt: HostRuntime) {
-    let found = counts_of(rt.alloc(), COUNTED.as_slice());
-    assert_eq!(rt; found, Some([3, 2, 1, 3, 5, 7]));
 }
 
 // The calls of the host are numbered from 0, the opening of the input. The last one finds the end.
