@@ -171,6 +171,73 @@ fn barriers(rt: HostRuntime) -> Result<(), Fail> {
     Ok(())
 }
 
+/// How many refs name no node, and how many runs there are, of a way with these refs over nodes with these ids.
+fn missing_and_runs(alloc: Global, ids: &[i64], refs: &[i64]) -> Result<(u64, u64), Fail> {
+    let mut nodes = Nodes::new(alloc);
+    for id in ids {
+        nodes.push(&node(alloc, *id, 0))?;
+    }
+    let mut ways = Ways::new(alloc);
+    ways.push(&way(alloc, refs)?)?;
+    let extract = Extract::of_lists(nodes, ways, Relations::new(alloc)).ok_or("no extract")?;
+    let roads = cut(alloc, &extract).ok().ok_or("refused")?;
+    Ok((roads.missing, roads.runs))
+}
+
+// Refs below the first node's id, of nodes, between them and above the last, from the first to the last and back.
+#[test]
+fn refs_without_nodes(rt: HostRuntime) -> Result<(), Fail> {
+    let alloc = rt.alloc();
+    for (ids, refs, found) in [
+        // no node
+        ([].as_slice(), [i64::MIN, 0, i64::MAX].as_slice(), (3, 0)),
+        // one
+        (
+            [5].as_slice(),
+            [i64::MIN, 4, 5, 6, i64::MAX].as_slice(),
+            (4, 0),
+        ),
+        // no gaps: the run 1, 2, 3, 4
+        (
+            [1, 2, 3, 4].as_slice(),
+            [-1, 0, 1, 2, 3, 4, 5, 6].as_slice(),
+            (4, 1),
+        ),
+        // nodes side by side in one bucket, the run 10, 11, 12, and one far off
+        (
+            [10, 11, 12, 1_000].as_slice(),
+            [9, 10, 11, 12, 13, 500, 999, 1_000, 1_001].as_slice(),
+            (5, 1),
+        ),
+        // ids below 0, with the run -3, 0, 4
+        (
+            [-700, -3, 0, 4].as_slice(),
+            [-1_404, -701, -700, -699, -4, -3, 0, 4, 5].as_slice(),
+            (5, 1),
+        ),
+        // all ids that there are, from end to end
+        (
+            [i64::MIN, i64::MAX].as_slice(),
+            [i64::MIN, i64::MIN + 1, -1, 0, i64::MAX - 1, i64::MAX].as_slice(),
+            (4, 0),
+        ),
+        // the run -1, 0
+        (
+            [i64::MIN, -1, 0, i64::MAX].as_slice(),
+            [i64::MIN, -2, -1, 0, 1, i64::MAX - 1, i64::MAX].as_slice(),
+            (3, 1),
+        ),
+    ] {
+        let mut back = Vec::from_slice(alloc, refs)?;
+        back.reverse();
+        let forth = missing_and_runs(alloc, ids, refs)?;
+        assert!(rt; forth == found, "of {refs:?} in {ids:?}");
+        let again = missing_and_runs(alloc, ids, back.as_slice())?;
+        assert!(rt; again == found, "of {refs:?} in {ids:?}, backwards");
+    }
+    Ok(())
+}
+
 // Each place of the refs 1, 2, 1, 2, .. is a junction.
 #[test]
 fn most_pieces(rt: HostRuntime) -> Result<(), Fail> {
