@@ -18,6 +18,7 @@ mod object;
 mod packed;
 mod raw;
 mod texts;
+mod worked;
 
 pub use block::{RawPrimitiveBlock, read_primitive_block};
 pub use fault::MessageFault;
@@ -29,3 +30,4 @@ pub use lists::NumberLists;
 pub use numbers::read_numbers;
 pub use object::RawObject;
 pub use raw::{RawDenseNodes, RawNode, RawRelation, RawWay};
+pub use worked::{worked_block_fields, worked_list_fields, worked_node_fields};
