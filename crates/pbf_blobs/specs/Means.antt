@@ -9,6 +9,7 @@ use Rattle.pbf_blobs.specs.declared.fault.PbfFault.{PbfFault}
 use Rattle.pbf_blobs.specs.declared.fault.PbfFault.TheVariants as faults
 use Rattle.pbf_blobs.specs.Triple.{HoldsBytes, HoldsVarint, NoneHolds, IsLastHeld, NoneBetween, IsFirstBetween, IsKnownType, IsHeader, IsTriple}
 use Rattle.pbf_blobs.specs.Next.{Outcome, Ends, Gives, Fails}
+use Rattle.pbf_blobs.specs.declared.limits.TheConstants.{HEADER_LIMIT, MOST_BLOB, MOST_INPUT}
 
 -- ---- how far a triple goes
 
@@ -19,7 +20,7 @@ pub record HasLength (rest : List ℕ) (len : ℕ) (after : List ℕ) : Type 0 w
 
 -- a length below 65,536, a header of that length, and what follows them
 pub record HasHeader (rest header after : List ℕ) : Type 0 where
-  pub short : length header < 65536
+  pub short : length header < HEADER_LIMIT
   pub parts : rest ≡ to_be_bytes w32 (length header) ++ header ++ after
 
 -- a header that is a message of these fields
@@ -36,8 +37,8 @@ pub record HasSize (at : ℕ) (rest header kind : List ℕ) (size : ℕ) (after 
 -- the same, where the Blob has a size within the limits
 pub record HasFittingSize (at : ℕ) (rest header kind : List ℕ) (size : ℕ) (after : List ℕ) : Type 0 where
   pub has : HasSize at rest header kind size after
-  pub size_limit : size ≤ 33554496
-  pub end_limit : at + 4 + length header + size ≤ 536870912
+  pub size_limit : size ≤ MOST_BLOB
+  pub end_limit : at + 4 + length header + size ≤ MOST_INPUT
 
 -- a whole Blob of a known type, which begins at the place start
 pub record HasKnownBlob (at : ℕ) (rest : List ℕ) (start : ℕ) (body : List ℕ) : Type 0 where
@@ -60,7 +61,7 @@ pub record EndsInHeader (rest : List ℕ) : Type 0 where
   pub len : ℕ
   pub after : List ℕ
   pub has : HasLength rest len after
-  pub short : len < 65536
+  pub short : len < HEADER_LIMIT
   pub ends : length after < len
 
 -- the Blob that begins at the place start
@@ -79,7 +80,7 @@ pub record EndsInBlob (at start : ℕ) (rest : List ℕ) : Type 0 where
 pub record HasLongLength (rest : List ℕ) (len : ℕ) : Type 0 where
   pub after : List ℕ
   pub has : HasLength rest len after
-  pub long : 65536 ≤ len
+  pub long : HEADER_LIMIT ≤ len
 
 -- the header's bytes spell no message
 pub record HasBrokenHeader (at : ℕ) (rest : List ℕ) (fault : WireFault) : Type 0 where
@@ -116,7 +117,7 @@ pub record HasLongBlob (at : ℕ) (rest : List ℕ) (size : ℕ) : Type 0 where
   pub kind : List ℕ
   pub after : List ℕ
   pub has : HasSize at rest header kind size after
-  pub long : 33554496 < size
+  pub long : MOST_BLOB < size
 
 -- it isn't, and would end at a place that is past the largest input's end
 pub record HasFarBlob (at : ℕ) (rest : List ℕ) (end : ℕ) : Type 0 where
@@ -125,9 +126,9 @@ pub record HasFarBlob (at : ℕ) (rest : List ℕ) (end : ℕ) : Type 0 where
   pub size : ℕ
   pub after : List ℕ
   pub has : HasSize at rest header kind size after
-  pub size_limit : size ≤ 33554496
+  pub size_limit : size ≤ MOST_BLOB
   pub end_is : end ≡ at + 4 + length header + size
-  pub far : 536870912 < end
+  pub far : MOST_INPUT < end
 
 -- ---- the Blob
 

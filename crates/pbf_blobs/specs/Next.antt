@@ -12,6 +12,7 @@ use Rattle.pbf_blobs.specs.declared.fault.PbfFault.{PbfFault}
 use Rattle.pbf_blobs.specs.declared.fault.PbfFault.TheVariants as faults
 use Rattle.pbf_blobs.specs.Messages.{bytes_in, varints_in, last_of, first_between}
 use Rattle.pbf_blobs.specs.Triple.{is_known}
+use Rattle.pbf_blobs.specs.declared.limits.TheConstants.{HEADER_LIMIT, MOST_BLOB, MOST_INPUT}
 
 -- the end of the input; or a blob; or the first fault
 pub data Outcome : Type 0 where
@@ -84,8 +85,8 @@ bodied head rest =
 -- the size is seen
 abbrev pub sized : Head → List ℕ → Outcome
 sized head rest =
-    if nat_lt 33554496 head.size then Fails (faults.BlobTooLong head.at head.size)
-    else (if nat_lt 536870912 (head.body_at + head.size) then Fails (faults.TooLarge (head.body_at + head.size))
+    if nat_lt MOST_BLOB head.size then Fails (faults.BlobTooLong head.at head.size)
+    else (if nat_lt MOST_INPUT (head.body_at + head.size) then Fails (faults.TooLarge (head.body_at + head.size))
     else bodied head rest)
 
 -- the header is read
@@ -101,7 +102,7 @@ framed at len rest =
 
 -- the length is seen
 abbrev pub measured : ℕ → ℕ → List ℕ → Outcome
-measured at len rest = if nat_lt len 65536 then framed at len rest else Fails (faults.HeaderTooLong at len)
+measured at len rest = if nat_lt len HEADER_LIMIT then framed at len rest else Fails (faults.HeaderTooLong at len)
 
 -- what stands at the place at, where these bytes are left
 unfoldable pub next_of : ℕ → List ℕ → Outcome

@@ -8,6 +8,7 @@ use Rattle.std.specs.Str.{IsUtf8, bytes_eq}
 use Rattle.std.specs.List.{AllByRecursion}
 use Rattle.wire_read.specs.Fields.{Content, Varint, Bytes, WireField, SpellsFields}
 use Rattle.pbf_blobs.specs.declared.blob.Blob.{Blob}
+use Rattle.pbf_blobs.specs.declared.limits.TheConstants.{HEADER_LIMIT, MOST_BLOB, MOST_INPUT}
 
 -- ---- what a field holds
 
@@ -86,15 +87,15 @@ pub record IsTriple (at : ℕ) (bytes : List ℕ) (blob : Blob) : Type 0 where
   pub header : List ℕ
   pub body : List ℕ
   pub parts : bytes ≡ to_be_bytes w32 (length header) ++ header ++ body
-  pub short : length header < 65536
+  pub short : length header < HEADER_LIMIT
   pub is_header : IsHeader (at + 4) header blob.kind blob.size
   pub size : length body ≡ blob.size
-  pub size_limit : blob.size ≤ 33554496
+  pub size_limit : blob.size ≤ MOST_BLOB
   pub known : (blob.known ≡ true) ↔ IsKnownType blob.kind
   pub is_blob : IsBlob blob.known (at + 4 + length header) body blob.raw_at blob.raw
   pub place : blob.at ≡ at
   pub end : blob.end ≡ at + length bytes
-  pub end_limit : blob.end ≤ 536870912
+  pub end_limit : blob.end ≤ MOST_INPUT
 
 -- the bytes from the place at on are triples to their end, one after the other, and the blobs are theirs
 abbrev pub AreTriples : ℕ → List ℕ → List Blob → Type 0

@@ -7,22 +7,15 @@ ghost use Rattle.pbf_blobs.specs.Input.{OfRest};
 ghost use Rattle.pbf_blobs.specs.Answers.{Answers, AnswersBlob, CountedRead, IfRead, bytes_over, is_read};
 ghost use Rattle.pbf_blobs.specs.Triple.{is_known};
 ghost use Rattle.pbf_blobs.specs.Next.{next_of, framed, sized, bodied, paid, payload_of, ShowsPayload};
+ghost use Rattle.pbf_blobs.specs.declared.limits.TheConstants.{HEADER_LIMIT, MOST_BLOB, MOST_INPUT};
 
 use crate::blob::{Blob, Head};
 use crate::fault::PbfFault;
 use crate::input::{read_behind, read_full};
+use crate::limits::{HEADER_LIMIT, MOST_BLOB, MOST_INPUT};
 use crate::parts::{is_known, payload_front, read_header, read_payload};
 use host_port::{Bytes, Host, Text};
 use std::alloc::Global;
-
-/// A header has fewer bytes than this.
-const HEADER_LIMIT: u32 = 65_536;
-
-/// The most bytes that a Blob has.
-const MOST_BLOB: u64 = 33_554_496;
-
-/// The most bytes that an input has.
-const MOST_INPUT: u64 = 536_870_912;
 
 /// So many bytes of a Blob are looked at before its payload: a tag, and a varint of five bytes.
 const MOST_FRONT: usize = 6;
@@ -33,14 +26,14 @@ const MOST_FRONT: usize = 6;
 /// order of the parts (`docs/PBF.md`). It is the same whatever pieces the host reads in. After a fault of the
 /// bytes the place in the input isn't told here.
 pub fn next_blob<H: Host>(alloc: Global, host: &mut H, at: u64) -> Result<Option<Blob>, PbfFault>
-    requires { at ≤ 536870912 }
+    requires { at ≤ MOST_INPUT }
     ensures bytes { (input : List ℕ) → (H.state host.old).told.input ≡ Some input → (H.state host.old).told.place ≡ Some at →
         Answers result (next_of at (drop at input)) }
     ensures within { (input : List ℕ) → (H.state host.old).told.input ≡ Some input → (H.state host.old).told.place ≡ Some at →
         IfOk result (λ found. MatchOption found (length input ≤ at) (λ blob. blob.end ≤ length input)) }
     ensures few { IfOk result (λ found. IfSome found (λ blob. at + length blob.raw ≤ blob.end)) }
     ensures moved { IfOk result (λ found. (H.state host.new).told ≡ moved (bytes_over at found) (H.state host.old).told) }
-    ensures ahead { IfOk result (λ found. IfSome found (λ blob. (at + 4 ≤ blob.end) × (blob.end ≤ 536870912))) }
+    ensures ahead { IfOk result (λ found. IfSome found (λ blob. (at + 4 ≤ blob.end) × (blob.end ≤ MOST_INPUT))) }
     ensures raw { IfOk result (λ found. IfSome found (λ blob. blob.raw_at + length blob.raw < 2 ^ 64)) }
     ensures frame { OnlyReads (H.state host.old) (H.state host.new) }
     ensures faults { CountedRead (H.state host.old).read_faults (H.state host.new).read_faults result }
@@ -69,12 +62,12 @@ pub fn next_blob<H: Host>(alloc: Global, host: &mut H, at: u64) -> Result<Option
 
 /// Reads the header, which has this length, and the Blob behind it.
 fn after_length<H: Host>(alloc: Global, host: &mut H, at: u64, len: usize) -> Result<Blob, PbfFault>
-    requires place { at ≤ 536870912 }
-    requires short { len < 65536 }
+    requires place { at ≤ MOST_INPUT }
+    requires short { len < HEADER_LIMIT }
     ensures bytes { OfRest (H.state host.old).told (λ rest. AnswersBlob result (framed at len rest)) }
     ensures few { IfOk result (λ blob. at + length blob.raw ≤ blob.end) }
     ensures moved { IfOk result (λ blob. (H.state host.new).told ≡ moved (blob.end - (at + 4)) (H.state host.old).told) }
-    ensures ahead { IfOk result (λ blob. (at + 4 ≤ blob.end) × (blob.end ≤ 536870912)) }
+    ensures ahead { IfOk result (λ blob. (at + 4 ≤ blob.end) × (blob.end ≤ MOST_INPUT)) }
     ensures raw { IfOk result (λ blob. blob.raw_at + length blob.raw < 2 ^ 64) }
     ensures frame { OnlyReads (H.state host.old) (H.state host.new) }
     ensures faults { CountedRead (H.state host.old).read_faults (H.state host.new).read_faults result }
@@ -108,7 +101,7 @@ fn after_header<H: Host>(alloc: Global, host: &mut H, head: Head) -> Result<Blob
     ensures bytes { OfRest (H.state host.old).told (λ rest. AnswersBlob result (sized head rest)) }
     ensures few { IfOk result (λ blob. length blob.raw ≤ head.size) }
     ensures moved { IfOk result (λ blob. (H.state host.new).told ≡ moved head.size (H.state host.old).told) }
-    ensures end { IfOk result (λ blob. (blob.end ≡ head.body_at + head.size) × (blob.end ≤ 536870912)) }
+    ensures end { IfOk result (λ blob. (blob.end ≡ head.body_at + head.size) × (blob.end ≤ MOST_INPUT)) }
     ensures raw { IfOk result (λ blob. blob.raw_at + length blob.raw < 2 ^ 64) }
     ensures frame { OnlyReads (H.state host.old) (H.state host.new) }
     ensures faults { CountedRead (H.state host.old).read_faults (H.state host.new).read_faults result }
@@ -129,8 +122,8 @@ fn after_header<H: Host>(alloc: Global, host: &mut H, head: Head) -> Result<Blob
 
 /// Reads the Blob.
 fn any_blob<H: Host>(alloc: Global, host: &mut H, head: Head) -> Result<Blob, PbfFault>
-    requires size { head.size ≤ 33554496 }
-    requires end { head.body_at + head.size ≤ 536870912 }
+    requires size { head.size ≤ MOST_BLOB }
+    requires end { head.body_at + head.size ≤ MOST_INPUT }
     ensures bytes { OfRest (H.state host.old).told (λ rest. AnswersBlob result (bodied head rest)) }
     ensures few { IfOk result (λ blob. length blob.raw ≤ head.size) }
     ensures moved { IfOk result (λ blob. (H.state host.new).told ≡ moved head.size (H.state host.old).told) }
@@ -149,8 +142,8 @@ fn any_blob<H: Host>(alloc: Global, host: &mut H, head: Head) -> Result<Blob, Pb
 
 /// Reads over a Blob of another type.
 fn other_blob<H: Host>(alloc: Global, host: &mut H, head: Head) -> Result<Blob, PbfFault>
-    requires size { head.size ≤ 33554496 }
-    requires end { head.body_at + head.size ≤ 536870912 }
+    requires size { head.size ≤ MOST_BLOB }
+    requires end { head.body_at + head.size ≤ MOST_INPUT }
     requires other { is_known head.kind ≡ false }
     ensures bytes { OfRest (H.state host.old).told (λ rest. AnswersBlob result (bodied head rest)) }
     ensures few { IfOk result (λ blob. length blob.raw ≤ head.size) }
@@ -179,8 +172,8 @@ fn other_blob<H: Host>(alloc: Global, host: &mut H, head: Head) -> Result<Blob, 
 /// Reads a Blob of a known type: first the few bytes that show where its payload begins, so that the payload is
 /// read to where it stays.
 fn known_blob<H: Host>(alloc: Global, host: &mut H, head: Head) -> Result<Blob, PbfFault>
-    requires size { head.size ≤ 33554496 }
-    requires end { head.body_at + head.size ≤ 536870912 }
+    requires size { head.size ≤ MOST_BLOB }
+    requires end { head.body_at + head.size ≤ MOST_INPUT }
     requires known { is_known head.kind ≡ true }
     ensures bytes { OfRest (H.state host.old).told (λ rest. AnswersBlob result (bodied head rest)) }
     ensures few { IfOk result (λ blob. length blob.raw ≤ head.size) }
@@ -207,8 +200,8 @@ fn after_front<H: Host>(
     head: Head,
     front: &[u8],
 ) -> Result<Blob, PbfFault>
-    requires size { head.size ≤ 33554496 }
-    requires end { head.body_at + head.size ≤ 536870912 }
+    requires size { head.size ≤ MOST_BLOB }
+    requires end { head.body_at + head.size ≤ MOST_INPUT }
     requires known { is_known head.kind ≡ true }
     requires front { length front.now ≡ min head.size 6 }
     ensures bytes { OfRest (H.state host.old).told (λ rest. AnswersBlob result (bodied head (front.now ++ rest))) }
@@ -237,8 +230,8 @@ fn payload<H: Host>(
     left: usize,
 ) -> Result<Blob, PbfFault>
     requires size { length start.now + left ≤ head.size }
-    requires size_limit { head.size ≤ 33554496 }
-    requires end { head.body_at + head.size ≤ 536870912 }
+    requires size_limit { head.size ≤ MOST_BLOB }
+    requires end { head.body_at + head.size ≤ MOST_INPUT }
     requires known { is_known head.kind ≡ true }
     ensures bytes { (front : List ℕ) → length front + left ≡ head.size → ShowsPayload left front start.now →
         OfRest (H.state host.old).told (λ rest. AnswersBlob result (bodied head (front ++ rest))) }
@@ -275,8 +268,8 @@ fn walked_blob<H: Host>(
     left: usize,
 ) -> Result<Blob, PbfFault>
     requires size { length front.now + left ≡ head.size }
-    requires size_limit { head.size ≤ 33554496 }
-    requires end { head.body_at + head.size ≤ 536870912 }
+    requires size_limit { head.size ≤ MOST_BLOB }
+    requires end { head.body_at + head.size ≤ MOST_INPUT }
     requires known { is_known head.kind ≡ true }
     ensures bytes { OfRest (H.state host.old).told (λ rest. AnswersBlob result (bodied head (front.now ++ rest))) }
     ensures few { IfOk result (λ blob. length blob.raw ≤ head.size) }
@@ -296,9 +289,9 @@ fn walked_blob<H: Host>(
 
 /// The blob of a known type that has these bytes: its payload is copied out of them.
 fn blob_with_payload(alloc: Global, head: Head, body: &[u8]) -> Result<Blob, PbfFault>
-    requires place { head.body_at + length body.now ≤ 536870912 }
+    requires place { head.body_at + length body.now ≤ MOST_INPUT }
     requires size { length body.now ≤ head.size }
-    requires end { head.body_at + head.size ≤ 536870912 }
+    requires end { head.body_at + head.size ≤ MOST_INPUT }
     requires known { is_known head.kind ≡ true }
     ensures bytes { AnswersBlob result (paid head (payload_of head.body_at body.now)) }
     ensures few { IfOk result (λ blob. length blob.raw ≤ head.size) }
