@@ -1,7 +1,7 @@
 use Rattle.std.proofs.Common.{◌≡◌, List, map, Result, Ok, Err, IfOk, refl, sym, ◌∙◌, subst}
 use Rattle.tile_machine.specs.At.{At}
 use Rattle.tile_machine.proofs.Bridges.{at_read}
-use Rattle.phase_samples.proofs.tests.finished_tile.Goals as goal
+use Rattle.machine_tests.proofs.samples.finished_tile.Goals as goal
 
 -- what an answer says of each world, said of one
 at_world : {T E : Type 0} (r : Result T E) (F S A : List T → Type 0) (P : List T → T → Type 0) (world : List T)

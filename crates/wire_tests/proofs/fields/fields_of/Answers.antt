@@ -1,6 +1,6 @@
 use Rattle.std.proofs.Common.{◌≡◌, Bool, true, false, inl, inr}
 use Rattle.wire_read.proofs.FieldsSoFar.{FieldsSoFar-more, FieldsSoFar-push, FieldsSoFar-end, FieldsSoFar-fault}
-use Rattle.wire_read.proofs.fields_tests.fields_of.Goals as goal
+use Rattle.wire_tests.proofs.fields.fields_of.Goals as goal
 
 not_both : (b : Bool) → b ≡ true → b ≡ false → ⊥
 not_both b p q = cc

@@ -1,6 +1,6 @@
 use Rattle.std.proofs.Common.{◌≡◌, Bool, true, false, inl, inr}
 use Rattle.wire_read.proofs.ReadSoFar.{ReadSoFar-more, ReadSoFar-end, ReadSoFar-fault}
-use Rattle.wire_read.proofs.tests.numbers_of.Goals as goal
+use Rattle.wire_tests.proofs.numbers.numbers_of.Goals as goal
 
 not_both : (b : Bool) → b ≡ true → b ≡ false → ⊥
 not_both b p q = cc
