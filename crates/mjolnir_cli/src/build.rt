@@ -112,6 +112,6 @@ fn list_file(alloc: Global, output: &str, roads: &Roads) -> Result<HostFiles, Al
     let path = format!(in alloc; "{output}/plain.lst")?;
     let list = plain_text(alloc, roads)?;
     let mut files = HostFiles::new(alloc);
-    files.push(Text::from(path), Bytes::from(list.into_bytes()))?;
+    files.push((Text::from(path), Bytes::from(list.into_bytes())))?;
     Ok(files)
 }
