@@ -1,0 +1,5 @@
+mod TextLemmas
+mod SearchLemmas
+mod EntryLemmas
+mod OrderLemmas
+mod PassLemmas

@@ -1,0 +1,24 @@
+use Rattle.std.proofs.Common.{◌≡◌, ◌+◌, ◌<◌, ◌++◌, ◌∷◌, [], length, take, get_or, ◌∙◌, ap, sym, arith}
+use Rattle.tile_infos.specs.TileTexts.{texts_of_pieces}
+use Rattle.tile_infos.specs.TileEntries.{pieces_at, entries_of_pieces}
+use Rattle.tile_infos.proofs.EntryLemmas.{pieces_more, texts_step, infos_step, offsets_step}
+use Rattle.tile_infos.proofs.tile.tile_infos.Goals as goal
+
+pub loop-place-preserved : goal.loop-place-preserved
+loop-place-preserved c =
+    let pieces = c.args.pieces.now in
+    let places = c.args.places.now in
+    let i = c.loop-place.place-index in
+    let p = c.at-piece.result in
+    let done = pieces_at pieces (take i places) in
+    let new = c.put_names.new.texts.items in
+    let lt : i < length places = omega (arith, c.loop-place-test.true) in
+    let inside : get_or places i 0 < length pieces = c.requires i 0 lt in
+    let next : pieces_at pieces (take (i + 1) places) ≡ done ++ p ∷ [] = pieces_more pieces places i p lt inside c.at-piece.ensures in
+    let texts : new ≡ texts_of_pieces (done ++ p ∷ []) = texts_step done p c.loop-place.texts.items new c.names.result.now c.loop-place.invariant.1 c.names.ensures c.in_ok-put_names.ensures.texts in
+    let infos = infos_step done p new c.names.result.now c.loop-place.infos c.key.result c.shape.result.now c.deref.result.now texts c.loop-place.invariant.2 c.names.ensures c.key.ensures c.shape.ensures (c.deref.ensures.value ∙ c.in_ok-put_names.ensures.places) in (
+      c.in_ok-put_names.ensures.known,
+      texts ∙ ap texts_of_pieces (sym next),
+      c.in_ok-push_parts.ensures.ok ∙ infos ∙ ap entries_of_pieces (sym next),
+      offsets_step c.loop-place.infos c.push_parts.new.self (record { key = c.key.result; shape = c.shape.result.now; texts = c.deref.result.now }) c.loop-place.offsets.items c.push.new.self.items c.in_ok-size_of_all.field-0 c.loop-place.invariant.3 c.in_ok-size_of_all.ensures c.in_ok-push.ensures.items c.in_ok-push_parts.ensures.ok,
+    )

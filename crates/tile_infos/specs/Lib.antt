@@ -1,0 +1,4 @@
+pub mod TileTexts
+pub mod TileEntries
+pub mod TileChecks
+pub mod TextSearch
