@@ -1,6 +1,6 @@
 -- One piece more.
-use Rattle.std.proofs.Common.{◌≡◌, ℕ, ◌+◌, ◌<◌, true, ◌||◌, List, [], ◌∷◌, ◌++◌, length, map, take, get_or, slice_get, Some, refl, sym, ap, ◌∙◌, arith, append-nil}
-use Rattle.std.specs.List.{list_any, flat_map, filter_map, cons_option}
+use Rattle.std.proofs.Common.{◌≡◌, ℕ, ◌+◌, ◌<◌, true, ◌||◌, List, [], ◌∷◌, ◌++◌, length, map, take, get_or, slice_get, refl, sym, ap, ◌∙◌, arith, append-nil}
+use Rattle.std.specs.List.{list_any, filter_map, cons_option}
 use Rattle.std.specs.Str.{bytes_eq}
 use Rattle.std.proofs.lemmas.List.{map_push, length-append, take_more}
 use Rattle.std.proofs.lemmas.List.Concat.{flat_map-append, flat_map-cons}
@@ -71,20 +71,26 @@ pieces_more pieces places i p lt inside is =
 
 -- ---- one piece more
 
-pub texts_step : (done : List Piece) (p : Piece) (texts new names : List (List ℕ)) → texts ≡ texts_of_pieces done → names ≡ p.names → new ≡ texts_once texts names → new ≡ texts_of_pieces (done ++ p ∷ [])
-texts_step done p texts new names at named grew = grew ∙ ap (λ l. texts_once l names) at ∙ ap (texts_once (texts_of_pieces done)) named ∙ sym (texts_more done p)
+pub texts_step : (done part : List Piece) (p : Piece) (texts new names : List (List ℕ)) → part ≡ done ++ p ∷ [] → texts ≡ texts_of_pieces done → names ≡ p.names → new ≡ texts_once texts names → new ≡ texts_of_pieces part
+texts_step done part p texts new names next at named grew =
+    grew ∙ ap (λ l. texts_once l names) at ∙ ap (texts_once (texts_of_pieces done)) named ∙ sym (texts_more done p) ∙ ap texts_of_pieces (sym next)
 
-pub infos_step : (done : List Piece) (p : Piece) (new names : List (List ℕ)) (infos : List Info) (key : PieceKey) (shape : List Point) (places : List ℕ)
-    → new ≡ texts_of_pieces (done ++ p ∷ []) → infos ≡ entries_of_pieces done → names ≡ p.names → key ≡ p.key → shape ≡ p.shape → places ≡ map (text_place new) names
-    → infos ++ record { key = key; shape = shape; texts = places } ∷ [] ≡ entries_of_pieces (done ++ p ∷ [])
-infos_step done p new names infos key shape places at were named keyed shaped placed =
+-- the entry of these parts behind the others
+pub infos_step : (done part : List Piece) (p : Piece) (new names : List (List ℕ)) (infos new_infos : List Info) (key : PieceKey) (shape : List Point) (places : List ℕ)
+    → part ≡ done ++ p ∷ [] → new ≡ texts_of_pieces part → infos ≡ entries_of_pieces done → names ≡ p.names → key ≡ p.key → shape ≡ p.shape → places ≡ map (text_place new) names
+    → new_infos ≡ infos ++ record { key = key; shape = shape; texts = places } ∷ []
+    → new_infos ≡ entries_of_pieces part
+infos_step done part p new names infos new_infos key shape places next at were named keyed shaped placed pushed =
     let by_key : PieceKey → Info = λ k. record { key = k; shape = shape; texts = places } in
     let by_shape : List Point → Info = λ s. record { key = p.key; shape = s; texts = places } in
     let by_texts : List ℕ → Info = λ l. record { key = p.key; shape = p.shape; texts = l } in
-    let texts : places ≡ map (text_place (texts_of_pieces (done ++ p ∷ []))) p.names = placed ∙ ap (λ l. map (text_place l) names) at ∙ ap (map (text_place (texts_of_pieces (done ++ p ∷ [])))) named in
-    ap (λ l. l ++ by_key key ∷ []) were
+    let all = texts_of_pieces (done ++ p ∷ []) in
+    let texts : places ≡ map (text_place all) p.names = placed ∙ ap (λ l. map (text_place l) names) (at ∙ ap texts_of_pieces next) ∙ ap (map (text_place all)) named in
+    pushed
+    ∙ ap (λ l. l ++ by_key key ∷ []) were
     ∙ ap (λ e. entries_of_pieces done ++ e ∷ []) (ap by_key keyed ∙ ap by_shape shaped ∙ ap by_texts texts)
     ∙ sym (entries_more done p)
+    ∙ ap entries_of_pieces (sym next)
 
 pub offsets_step : (infos new : List Info) (x : Info) (offsets new_offsets : List ℕ) (at : ℕ) → offsets ≡ starts_of infos → at ≡ length (infos_bytes infos) → new_offsets ≡ offsets ++ at ∷ [] → new ≡ infos ++ x ∷ [] → new_offsets ≡ starts_of new
 offsets_step infos new x offsets new_offsets at were here put is =

@@ -3,3 +3,5 @@ mod SearchLemmas
 mod EntryLemmas
 mod OrderLemmas
 mod PassLemmas
+mod StartLemmas
+mod WorkedTile

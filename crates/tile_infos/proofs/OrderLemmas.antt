@@ -7,7 +7,6 @@ use Rattle.std.proofs.lemmas.Bool.{cases_Bool, cases_eq, ne_eqb, eq-eqb, falseâ‰
 use Rattle.std.proofs.lemmas.List.{length-append}
 use Rattle.std.proofs.lemmas.List.Elements.{All-head, All-tail}
 use Rattle.section_grammar.specs.Reads.{AllGood}
-use Rattle.osm_model.specs.Grew.{Grew}
 use Rattle.edge_info.specs.Texts.{first_place, TextPasses, AreFirstNamed}
 use Rattle.tile_infos.specs.TileTexts.{with_text, texts_once, text_place}
 use Rattle.tile_infos.specs.TileChecks.{IsRoadName}

@@ -1,8 +1,8 @@
 -- The entries and the texts pass the checks of a tile file.
-use Rattle.std.proofs.Common.{◌≡◌, ℕ, zero, suc, ◌+◌, ◌<◌, ◌≤◌, ◌^◌, Bool, true, false, ◌||◌, List, [], ◌∷◌, ◌++◌, length, map, get_or, slice_get, Some, refl, sym, ap, ◌∙◌, subst, arith, All, AllPairs}
-use Rattle.std.specs.List.{list_any, flat_map, filter_map, cons_option}
+use Rattle.std.proofs.Common.{◌≡◌, ℕ, suc, ◌<◌, ◌≤◌, ◌^◌, true, ◌||◌, List, [], ◌∷◌, ◌++◌, length, map, get_or, refl, sym, ap, ◌∙◌, subst, arith, All, AllPairs}
+use Rattle.std.specs.List.{list_any, cons_option}
 use Rattle.std.specs.Str.{bytes_eq}
-use Rattle.std.proofs.lemmas.List.{map-append, length-map, get_or-map, length-append}
+use Rattle.std.proofs.lemmas.List.{map-append, length-map, get_or-map}
 use Rattle.std.proofs.lemmas.List.Concat.{flat_map-cons}
 use Rattle.std.proofs.lemmas.List.Elements.{All-nil, All-cons, All-head, All-tail, All-same, All-append, All-push, All-get_or}
 use Rattle.std.proofs.lemmas.List.Folds.{list_any-append}
@@ -98,21 +98,25 @@ at_places pieces d (n ∷ ns) h =
     ap (λ o. cons_option o (pieces_at pieces ns)) (slice_get-get_or pieces n d (All-head (λ place. place < length pieces) n ns h))
     ∙ ap (λ l. get_or pieces n d ∷ l) (at_places pieces d ns (All-tail (λ place. place < length pieces) n ns h))
 
+pub chosen_long : (pieces : List Piece) (places : List ℕ) → All (λ place. place < length pieces) places → length (pieces_at pieces places) ≡ length places
+chosen_long [] [] h = refl
+chosen_long [] (n ∷ ns) h = let none : n < 0 = All-head (λ place. place < 0) n ns h in absurd (omega (arith, none))
+chosen_long (q ∷ qs) places h = ap length (at_places (q ∷ qs) q places h) ∙ length-map places (λ place. get_or (q ∷ qs) place q)
+
+pub chosen_at : (pieces : List Piece) (places : List ℕ) (i : ℕ) (d : Piece) → All (λ place. place < length pieces) places → i < length places → get_or (pieces_at pieces places) i d ≡ get_or pieces (get_or places i 0) d
+chosen_at pieces places i d inside lt =
+    ap (λ l. get_or l i d) (at_places pieces d places inside) ∙ get_or-map (λ place. get_or pieces place d) places i 0 d lt
+
 -- keys of pieces that are chosen in order rise where those of all do
 pub chosen_rise : (pieces : List Piece) (places : List ℕ) → KeysRise pieces → All (λ place. place < length pieces) places → AllPairs (λ a b. a < b) places → KeysRise (pieces_at pieces places)
 chosen_rise pieces places rise inside up = λ i j d a b.
-    let f : ℕ → Piece = λ place. get_or pieces place d in
-    let is : pieces_at pieces places ≡ map f places = at_places pieces d places inside in
-    let b' : j < length places = omega (arith, b, ap length is, length-map places f) in
-    let at_i : get_or (pieces_at pieces places) i d ≡ f (get_or places i 0) = ap (λ l. get_or l i d) is ∙ get_or-map f places i 0 d (omega (arith, a, b')) in
-    let at_j : get_or (pieces_at pieces places) j d ≡ f (get_or places j 0) = ap (λ l. get_or l j d) is ∙ get_or-map f places j 0 d b' in
+    let b' : j < length places = omega (arith, b, chosen_long pieces places inside) in
+    let at_i = chosen_at pieces places i d inside (omega (arith, a, b')) in
+    let at_j = chosen_at pieces places j d inside b' in
     let here = rise (get_or places i 0) (get_or places j 0) d (up i j 0 a b') (All-get_or (λ place. place < length pieces) places j 0 b' inside) in
-    ap (λ (p : Piece). comes_before p.key (get_or (pieces_at pieces places) j d).key) at_i ∙ ap (λ (q : Piece). comes_before (f (get_or places i 0)).key q.key) at_j ∙ here
+    ap (λ (p : Piece). comes_before p.key (get_or (pieces_at pieces places) j d).key) at_i ∙ ap (λ (q : Piece). comes_before (get_or pieces (get_or places i 0) d).key q.key) at_j ∙ here
 
 pub chosen_have : (pieces : List Piece) (places : List ℕ) → All HasEntry pieces → All (λ place. place < length pieces) places → All HasEntry (pieces_at pieces places)
 chosen_have pieces places good inside = λ i d a.
-    let f : ℕ → Piece = λ place. get_or pieces place d in
-    let is : pieces_at pieces places ≡ map f places = at_places pieces d places inside in
-    let a' : i < length places = omega (arith, a, ap length is, length-map places f) in
-    let at_i : get_or (pieces_at pieces places) i d ≡ f (get_or places i 0) = ap (λ l. get_or l i d) is ∙ get_or-map f places i 0 d a' in
-    subst HasEntry (sym at_i) (good (get_or places i 0) d (All-get_or (λ place. place < length pieces) places i 0 a' inside))
+    let a' : i < length places = omega (arith, a, chosen_long pieces places inside) in
+    subst HasEntry (sym (chosen_at pieces places i d inside a')) (good (get_or places i 0) d (All-get_or (λ place. place < length pieces) places i 0 a' inside))

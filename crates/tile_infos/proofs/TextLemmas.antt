@@ -90,19 +90,20 @@ once_has (x ∷ xs) before t h = elim (cases_Bool (bytes_eq t x)) [
   | inr other ↦ once_has xs (with_text before x) t (sym (ap (λ b. b || list_any (bytes_eq t) xs) other) ∙ h)
 ]
 
--- one name more of a piece
-pub names_step : (before xs texts new : List (List ℕ)) (t : List ℕ) (places : List ℕ) (place : ℕ)
-    → texts ≡ texts_once before xs → new ≡ with_text texts t → place ≡ text_place new t → places ≡ map (text_place texts) xs
-    → places ++ place ∷ [] ≡ map (text_place new) (xs ++ t ∷ [])
-names_step before xs texts new t places place at grew here old =
+-- one name more of a piece: the texts, and the places of the names so far
+pub once_step : (before xs part texts new : List (List ℕ)) (t : List ℕ) → part ≡ xs ++ t ∷ [] → texts ≡ texts_once before xs → new ≡ with_text texts t → new ≡ texts_once before part
+once_step before xs part texts new t next at grew =
+    grew ∙ ap (λ l. with_text l t) at ∙ sym (once_append xs (t ∷ []) before) ∙ ap (texts_once before) (sym next)
+
+pub names_step : (before xs part texts new : List (List ℕ)) (t : List ℕ) (places new_places : List ℕ) (place : ℕ)
+    → part ≡ xs ++ t ∷ [] → texts ≡ texts_once before xs → new ≡ with_text texts t → place ≡ text_place new t → places ≡ map (text_place texts) xs → new_places ≡ places ++ place ∷ []
+    → new_places ≡ map (text_place new) part
+names_step before xs part texts new t places new_places place next at grew here old pushed =
     let g = grew_with texts t in
     let is : new ≡ texts ++ g.more = grew ∙ g.is in
     let all : (s : List ℕ) → list_any (bytes_eq s) xs ≡ true → list_any (bytes_eq s) texts ≡ true = λ s e. ap (list_any (bytes_eq s)) at ∙ once_has xs before s e in
     let stay : map (text_place new) xs ≡ places = ap (λ l. map (text_place l) xs) is ∙ places_stay texts g.more xs all ∙ sym old in
-    sym (map-append (text_place new) xs (t ∷ []) ∙ ap (λ l. l ++ text_place new t ∷ []) stay ∙ ap (λ n. places ++ n ∷ []) (sym here))
-
-pub once_step : (before xs texts new : List (List ℕ)) (t : List ℕ) → texts ≡ texts_once before xs → new ≡ with_text texts t → new ≡ texts_once before (xs ++ t ∷ [])
-once_step before xs texts new t at grew = grew ∙ ap (λ l. with_text l t) at ∙ sym (once_append xs (t ∷ []) before)
+    pushed ∙ sym (ap (map (text_place new)) next ∙ map-append (text_place new) xs (t ∷ []) ∙ ap (λ l. l ++ text_place new t ∷ []) stay ∙ ap (λ n. places ++ n ∷ []) (sym here))
 
 -- a copy of a text stands where the text was put
 pub copy_pushed : (old new : List (List ℕ)) (copy t : List ℕ) → new ≡ old ++ copy ∷ [] → copy ≡ t → new ≡ old ++ t ∷ []

@@ -1,5 +1,5 @@
 -- The entries of a tile.
-use Rattle.std.specs.Prelude.{ℕ, List, map, slice_get}
+use Rattle.std.specs.Prelude.{ℕ, ◌+◌, ◌*◌, List, length, map, slice_get}
 use Rattle.std.specs.List.{filter_map}
 use Rattle.edge_info.specs.declared.infos.Info.{Info}
 use Rattle.road_pieces.specs.declared.rows.Piece.{Piece}
@@ -16,3 +16,7 @@ entry_of_piece texts p = record { key = p.key; shape = p.shape; texts = map (tex
 -- the entries of a tile with these pieces
 abbrev pub entries_of_pieces : List Piece → List Info
 entries_of_pieces pieces = map (entry_of_piece (texts_of_pieces pieces)) pieces
+
+-- the bytes of an entry: 24, 8 for each point and 4 for each name
+abbrev pub size_of_entry : Info → ℕ
+size_of_entry info = 24 + 8 * length info.shape + 4 * length info.texts

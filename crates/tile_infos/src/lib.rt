@@ -5,5 +5,5 @@ mod laws;
 mod names;
 mod tile;
 
-pub use laws::tile_infos_pass;
+pub use laws::{pieces_at_places, starts_are_sums, tile_infos_pass};
 pub use tile::{Offsets, TileInfos, tile_infos};
