@@ -3,7 +3,7 @@ use Rattle.std.proofs.Common.{◌≡◌, ◌≢◌, ℕ, zero, suc, ◌+◌, ◌
 use Rattle.std.proofs.lemmas.Bool.{both_ways, cases_order}
 use Rattle.std.proofs.lemmas.List.{get_or-replicate, get_or_past, length-replicate, length-set}
 use Rattle.road_pieces.specs.Rows.{stops}
-use Rattle.edge_builder.specs.Groups.{places_of, no_place, Leads, AreGroups}
+use Rattle.edge_builder.specs.Groups.{places_of, no_place, LinksOn, AreGroups}
 
 -- ---- what the places are
 
@@ -35,17 +35,17 @@ stops_few test k (x ∷ xs) = by (test x) (stops_few test (k + 1) xs)
 -- ---- links
 
 -- a new next place before the places doesn't matter to them
-leads_kept : {A : Type 0} (test : A → Bool) (next : List ℕ) (i y k from : ℕ) (xs : List A) → i < k → Leads next from (stops test k xs) → Leads (set next i y) from (stops test k xs)
+leads_kept : {A : Type 0} (test : A → Bool) (next : List ℕ) (i y k from : ℕ) (xs : List A) → i < k → LinksOn next from (stops test k xs) → LinksOn (set next i y) from (stops test k xs)
 leads_kept test next i y k from [] h l = l
 leads_kept test next i y k from (x ∷ xs) h l = by (test x) l (λ f. leads_kept test next i y (k + 1) f xs (omega (arith, h)))
   where
-    by : (b : Bool) → Leads next from (cond b (k ∷ stops test (k + 1) xs) (stops test (k + 1) xs)) → ((f : ℕ) → Leads next f (stops test (k + 1) xs) → Leads (set next i y) f (stops test (k + 1) xs)) → Leads (set next i y) from (cond b (k ∷ stops test (k + 1) xs) (stops test (k + 1) xs))
-    by true m rest = (m.0, subst (λ p. Leads (set next i y) p (stops test (k + 1) xs)) (sym (get_or-set_other next i k y no_place (λ e. absurd (omega (arith, h, e))))) (rest (get_or next k no_place) m.1))
+    by : (b : Bool) → LinksOn next from (cond b (k ∷ stops test (k + 1) xs) (stops test (k + 1) xs)) → ((f : ℕ) → LinksOn next f (stops test (k + 1) xs) → LinksOn (set next i y) f (stops test (k + 1) xs)) → LinksOn (set next i y) from (cond b (k ∷ stops test (k + 1) xs) (stops test (k + 1) xs))
+    by true m rest = (m.0, subst (λ p. LinksOn (set next i y) p (stops test (k + 1) xs)) (sym (get_or-set_other next i k y no_place (λ e. absurd (omega (arith, h, e))))) (rest (get_or next k no_place) m.1))
     by false m rest = rest from m
 
 -- the places from one on are linked
 pub record AreLinked (numbers first next : List ℕ) (from bound : ℕ) : Type 0 where
-  pub lead : (n : ℕ) → Leads next (get_or first n no_place) (stops (λ m. nat_eq m n) from (drop from numbers))
+  pub lead : (n : ℕ) → LinksOn next (get_or first n no_place) (stops (λ m. nat_eq m n) from (drop from numbers))
   pub lengths : length next ≡ length numbers
   pub firsts : length first ≡ bound
 
@@ -67,7 +67,7 @@ none_linked numbers first next bound none e = record {
 
 pub one_linked : (numbers first next : List ℕ) (place m bound : ℕ) → place < length numbers → get_or numbers place 0 ≡ m → m < bound → AreLinked numbers first next (place + 1) bound → AreLinked numbers (set first m place) (set next place (get_or first m no_place)) place bound
 one_linked numbers first next place m bound h e l linked = record {
-  lead = λ n. subst (λ ns. Leads (set next place y) (get_or (set first m place) n no_place) (stops (λ k. nat_eq k n) place ns)) (sym split) (by n (nat_eq m n) refl);
+  lead = λ n. subst (λ ns. LinksOn (set next place y) (get_or (set first m place) n no_place) (stops (λ k. nat_eq k n) place ns)) (sym split) (by n (nat_eq m n) refl);
   lengths = length-set next place y ∙ linked.lengths;
   firsts = length-set first m place ∙ linked.firsts;
 }
@@ -81,16 +81,16 @@ one_linked numbers first next place m bound h e l linked = record {
     split : drop place numbers ≡ m ∷ drop (place + 1) numbers
     split = drop-cons numbers place 0 h ∙ (ap (λ k. k ∷ drop (suc place) numbers) e ∙ ap (λ k. m ∷ drop k numbers) (sym (add-one place)))
 
-    by : (n : ℕ) (b : Bool) → nat_eq m n ≡ b → Leads (set next place y) (get_or (set first m place) n no_place) (cond b (place ∷ stops (λ k. nat_eq k n) (place + 1) rest) (stops (λ k. nat_eq k n) (place + 1) rest))
+    by : (n : ℕ) (b : Bool) → nat_eq m n ≡ b → LinksOn (set next place y) (get_or (set first m place) n no_place) (cond b (place ∷ stops (λ k. nat_eq k n) (place + 1) rest) (stops (λ k. nat_eq k n) (place + 1) rest))
     by n true q =
         let same : m ≡ n = eqb-true m n q in
-        let was : Leads next y (stops (λ k. nat_eq k n) (place + 1) rest) = subst (λ k. Leads next (get_or first k no_place) (stops (λ j. nat_eq j n) (place + 1) rest)) (sym same) (linked.lead n) in (
+        let was : LinksOn next y (stops (λ k. nat_eq k n) (place + 1) rest) = subst (λ k. LinksOn next (get_or first k no_place) (stops (λ j. nat_eq j n) (place + 1) rest)) (sym same) (linked.lead n) in (
           subst (λ k. get_or (set first m place) k no_place ≡ place) same (get_or-set_same first m place no_place (omega (arith, l, linked.firsts))),
-          subst (λ f. Leads (set next place y) f (stops (λ k. nat_eq k n) (place + 1) rest)) (sym (get_or-set_same next place y no_place (omega (arith, h, linked.lengths)))) (leads_kept (λ k. nat_eq k n) next place y (place + 1) y rest (omega arith) was),
+          subst (λ f. LinksOn (set next place y) f (stops (λ k. nat_eq k n) (place + 1) rest)) (sym (get_or-set_same next place y no_place (omega (arith, h, linked.lengths)))) (leads_kept (λ k. nat_eq k n) next place y (place + 1) y rest (omega arith) was),
         )
     by n false q =
         let other : n ≢ m = λ same. both_ways (nat_eq m n) q (eq-eqb m n (sym same)) in
-        subst (λ f. Leads (set next place y) f (stops (λ k. nat_eq k n) (place + 1) rest)) (sym (get_or-set_other first m n place no_place other)) (leads_kept (λ k. nat_eq k n) next place y (place + 1) (get_or first n no_place) rest (omega arith) (linked.lead n))
+        subst (λ f. LinksOn (set next place y) f (stops (λ k. nat_eq k n) (place + 1) rest)) (sym (get_or-set_other first m n place no_place other)) (leads_kept (λ k. nat_eq k n) next place y (place + 1) (get_or first n no_place) rest (omega arith) (linked.lead n))
 
 pub all_linked : (numbers first next : List ℕ) (bound : ℕ) → length numbers ≤ 10_000_000 → AreLinked numbers first next 0 bound → AreGroups numbers first next
 all_linked numbers first next bound few linked = record { lead = linked.lead; lengths = linked.lengths; few = few }
@@ -101,7 +101,7 @@ all_linked numbers first next bound few linked = record { lead = linked.lead; le
 pub record IsRead (numbers next : List ℕ) (n at : ℕ) (places : List ℕ) : Type 0 where
   pub rest : List ℕ
   pub whole : places ++ rest ≡ places_of n numbers
-  pub leads : Leads next at rest
+  pub leads : LinksOn next at rest
 
 pub none_read : (numbers first next : List ℕ) (n : ℕ) → AreGroups numbers first next → IsRead numbers next n (get_or first n no_place) []
 none_read numbers first next n groups = record { rest = places_of n numbers; whole = refl; leads = groups.lead n }
@@ -109,18 +109,18 @@ none_read numbers first next n groups = record { rest = places_of n numbers; who
 pub one_read : (numbers next : List ℕ) (n at : ℕ) (places : List ℕ) → at ≢ no_place → IsRead numbers next n at places → IsRead numbers next n (get_or next at no_place) (places ++ at ∷ [])
 one_read numbers next n at places here read = by read.rest read.whole read.leads
   where
-    by : (rest : List ℕ) → places ++ rest ≡ places_of n numbers → Leads next at rest → IsRead numbers next n (get_or next at no_place) (places ++ at ∷ [])
+    by : (rest : List ℕ) → places ++ rest ≡ places_of n numbers → LinksOn next at rest → IsRead numbers next n (get_or next at no_place) (places ++ at ∷ [])
     by [] w l = absurd (here l)
     by (p ∷ ps) w l = record {
       rest = ps;
       whole = append_assoc places (at ∷ []) ps ∙ (ap (λ k. places ++ k ∷ ps) l.0 ∙ w);
-      leads = subst (λ k. Leads next (get_or next k no_place) ps) (sym l.0) l.1;
+      leads = subst (λ k. LinksOn next (get_or next k no_place) ps) (sym l.0) l.1;
     }
 
 pub read_inside : (numbers next : List ℕ) (n at : ℕ) (places : List ℕ) → at ≢ no_place → IsRead numbers next n at places → (at < length numbers) × (length places < length numbers)
 read_inside numbers next n at places here read = by read.rest read.whole read.leads
   where
-    by : (rest : List ℕ) → places ++ rest ≡ places_of n numbers → Leads next at rest → (at < length numbers) × (length places < length numbers)
+    by : (rest : List ℕ) → places ++ rest ≡ places_of n numbers → LinksOn next at rest → (at < length numbers) × (length places < length numbers)
     by [] w l = absurd (here l)
     by (p ∷ ps) w l =
         let long : length places + length (p ∷ ps) ≡ length (places_of n numbers) = sym (length-append places (p ∷ ps)) ∙ ap length w in
@@ -132,7 +132,7 @@ read_inside numbers next n at places here read = by read.rest read.whole read.le
 pub all_read : (numbers next : List ℕ) (n at : ℕ) (places : List ℕ) → length numbers ≤ 10_000_000 → at ≡ no_place → IsRead numbers next n at places → places ≡ places_of n numbers
 all_read numbers next n at places few there read = by read.rest read.whole read.leads
   where
-    by : (rest : List ℕ) → places ++ rest ≡ places_of n numbers → Leads next at rest → places ≡ places_of n numbers
+    by : (rest : List ℕ) → places ++ rest ≡ places_of n numbers → LinksOn next at rest → places ≡ places_of n numbers
     by [] w l = sym (append-nil places) ∙ w
     by (p ∷ ps) w l =
         let long : length places + length (p ∷ ps) ≡ length (places_of n numbers) = sym (length-append places (p ∷ ps)) ∙ ap length w in
