@@ -1,0 +1,4 @@
+pub mod CrowdLemmas
+pub mod GroupLemmas
+pub mod JunctionLemmas
+pub mod RowLemmas
