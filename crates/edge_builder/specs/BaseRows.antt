@@ -60,10 +60,15 @@ pub record IsJoined (junctions : List Junction) (p : Piece) : Type 0 where
   pub start : junction_place junctions p.start < length junctions
   pub end : junction_place junctions p.end < length junctions
 
+-- a piece is no longer than a tile can tell
+abbrev pub IsShort : Piece → Type 0
+IsShort p = p.cm ≤ 268_435_455
+
 -- what holds of the junctions and the pieces of the roads of each extract
 pub record AreRoads (junctions : List Junction) (pieces : List Piece) : Type 0 where
   pub placed : All (λ j. IsPlace j.at) junctions
   pub rise : JunctionsRise junctions
   pub joined : All (IsJoined junctions) pieces
+  pub short : All IsShort pieces
   pub few_junctions : length junctions ≤ 10_000_000
   pub few_pieces : length pieces ≤ 4_000_000
