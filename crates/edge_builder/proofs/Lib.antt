@@ -1,0 +1,9 @@
+pub mod Bounds
+pub mod CrowdLemmas
+pub mod EdgeLemmas
+pub mod GroupLemmas
+pub mod JunctionLemmas
+pub mod NodeLemmas
+pub mod RowLemmas
+pub mod TileLemmas
+pub mod UsedTiles

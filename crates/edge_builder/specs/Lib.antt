@@ -1,0 +1,3 @@
+pub mod BaseRows
+pub mod BaseTiles
+pub mod Groups
