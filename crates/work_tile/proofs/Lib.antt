@@ -5,3 +5,4 @@ mod NodeBack
 mod NodesOver
 mod TilePut
 mod Found
+mod EdgesOver

@@ -1,5 +1,5 @@
 //! The nodes of a tile, each with the edges that start there.
-ghost use Rattle.std.specs.Prelude.{◌≡◌, ◌<◌, ◌≤◌, ◌+◌, ◌++◌, ◌∷◌, [], List, length, OnOk, OnErr, slice_index_or, drop};
+ghost use Rattle.std.specs.Prelude.{◌≡◌, ◌<◌, ◌≤◌, ◌+◌, ◌++◌, ◌∷◌, [], List, length, OnOk, OnErr, slice_index_or, drop, sum_by};
 ghost use Rattle.work_tile.specs.WorkRows.{WorkNode, work_node_with, with_edge, first_from};
 
 use crate::edge_rows::{EdgeRows, WorkEdge};
@@ -102,6 +102,16 @@ impl TileRows {
         ensures { result ≡ length self.now.nodes }
     {
         self.nodes.len()
+    }
+
+    /// The number of edges of all its nodes.
+    pub fn edges_len(&self) -> usize
+        ensures { result ≡ sum_by (λ n. length n.edges) self.now.nodes }
+    {
+        if self.nodes.len() == 0 {
+            return 0;
+        }
+        self.edges.len() - self.nodes.at(0).from as usize
     }
 
     /// The node at index `i`.

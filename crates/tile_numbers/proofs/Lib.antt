@@ -1,0 +1,6 @@
+mod Halves
+mod BackEdges
+mod TilesFound
+mod FullTiles
+mod Fits
+mod RecordLists

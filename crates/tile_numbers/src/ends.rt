@@ -1,0 +1,146 @@
+//! Where an edge ends, and which edge leads back there.
+ghost use Rattle.std.specs.Prelude.{◌≡◌, ◌≤◌, ◌<◌, length, slice_index_or, unwrap_or, IfSome, IfNone};
+ghost use Rattle.std.specs.Ordering.{int_cmp};
+ghost use Rattle.osm_model.specs.Extract.{IdsRise};
+ghost use Rattle.std.specs.List.{position, find};
+ghost use Rattle.std.specs.Option.{option_map};
+ghost use Rattle.work_tile.specs.WorkRows.{WorkNode};
+ghost use Rattle.work_tile.specs.Places.{tile_numbers};
+ghost use Rattle.tile_numbers.specs.declared.room.TheConstants.{MOST_RECORDS};
+ghost use Rattle.tile_numbers.specs.LookUps.{no_rows, work_rows_at, node_index, runs_back, opposing_index, opposing_local_index};
+ghost use Rattle.tile_numbers.specs.Limits.{CanBeNumbered, TilesCanBeNumbered};
+
+use road_pieces::DirKey;
+use std::cmp::Ordering;
+use work_tile::{NodeView, Places, TileRows, WorkEdge, WorkTile};
+
+/// The index of the node where an edge ends, and the index and the local index of the opposing edge there.
+#[derive(Clone, Copy, Debug)]
+pub(crate) struct End {
+    pub node: u32,
+    pub opposing: u8,
+    pub local: u8,
+}
+
+/// How the OSM id of the node at index `i` stands to `osm`.
+fn order_at(rows: &TileRows, i: usize, osm: &i64) -> Ordering
+    requires { i < length rows.now.nodes }
+    ensures { (d : WorkNode) → result ≡ int_cmp (slice_index_or rows.now.nodes i d).osm osm.now }
+{
+    rows.node(i).osm().cmp(osm)
+}
+
+/// The index of a junction's node, by halves; where there is none, the number of nodes.
+fn node_place(rows: &TileRows, osm: &i64) -> usize
+    requires { IdsRise (λ (n : WorkNode). n.osm) rows.now.nodes }
+    ensures is { result ≡ node_index rows.now osm.now }
+    ensures within { result ≤ length rows.now.nodes }
+{
+    let mut low = 0;
+    let mut high = rows.nodes_len();
+    while low < high {
+        let middle = low + (high - low) / 2;
+        match order_at(rows, middle, osm) {
+            Ordering::Less => low = middle + 1,
+            Ordering::Equal => return middle,
+            Ordering::Greater => high = middle,
+        }
+    }
+    rows.nodes_len()
+}
+
+/// Whether an edge is the same piece in the other direction.
+fn runs_back(key: DirKey, edge: &WorkEdge) -> bool
+    ensures { result ≡ runs_back key edge.now }
+{
+    let other = edge.key;
+    key.key.way == other.key.way
+        && key.key.run == other.key.run
+        && key.key.piece == other.key.piece
+        && if key.forward {
+            !other.forward
+        } else {
+            other.forward
+        }
+}
+
+/// The index of the edge at a node that is the same piece in the other direction, and its local index; 0 and 0 where
+/// there is none.
+fn opposing_at(node: &NodeView<'_>, key: DirKey) -> (usize, u8)
+    ensures index { result.0 ≡ unwrap_or (position (runs_back key) node.now.edges) 0 }
+    ensures local { result.1 ≡ unwrap_or (option_map (λ f. f.local) (find (runs_back key) node.now.edges)) 0 }
+{
+    for k in 0..node.edges_len() {
+        let edge = node.edge(k);
+        if runs_back(key, &edge) {
+            return (k, edge.local);
+        }
+    }
+    (0, 0)
+}
+
+/// The end of an edge in the tile that has it.
+fn end_in(rows: &TileRows, edge: &WorkEdge) -> End
+    requires { CanBeNumbered rows.now }
+    ensures node { result.node ≡ node_index rows.now edge.now.end }
+    ensures opposing { result.opposing ≡ opposing_index rows.now edge.now }
+    ensures local { result.local ≡ opposing_local_index rows.now edge.now }
+    ensures small_node { result.node ≤ MOST_RECORDS }
+    ensures small_opposing { result.opposing ≤ 127 }
+    ensures small_local { result.local ≤ 127 }
+{
+    let place = node_place(rows, &edge.end);
+    let node = place as u32;
+    if place == rows.nodes_len() {
+        return End {
+            node,
+            opposing: 0,
+            local: 0,
+        };
+    }
+    let (opposing, local) = opposing_at(&rows.node(place), edge.key);
+    End {
+        node,
+        opposing: opposing as u8,
+        local,
+    }
+}
+
+/// The rows of a level's tile, and `None` where it isn't among the tiles.
+fn rows_found<'a>(
+    tiles: &'a [WorkTile],
+    places: &Places,
+    level: u32,
+    tile: u32,
+) -> Option<&'a TileRows>
+    requires tiles { TilesCanBeNumbered tiles.now }
+    requires places { places.now ≡ tile_numbers tiles.now }
+    ensures some { IfSome result (λ rows. rows.now ≡ work_rows_at tiles.now level tile) }
+    ensures none { IfNone result (work_rows_at tiles.now level tile ≡ no_rows) }
+{
+    let Some(place) = places.place(level, tile) else {
+        return None;
+    };
+    Some(tiles[place as usize].rows())
+}
+
+/// The end of an edge of a tile of this level.
+pub(crate) fn end_of(tiles: &[WorkTile], places: &Places, level: u32, edge: &WorkEdge) -> End
+    requires tiles { TilesCanBeNumbered tiles.now }
+    requires places { places.now ≡ tile_numbers tiles.now }
+    ensures node { result.node ≡ node_index (work_rows_at tiles.now level edge.now.end_tile) edge.now.end }
+    ensures opposing { result.opposing ≡ opposing_index (work_rows_at tiles.now level edge.now.end_tile) edge.now }
+    ensures local { result.local ≡ opposing_local_index (work_rows_at tiles.now level edge.now.end_tile) edge.now }
+    ensures small_node { result.node ≤ MOST_RECORDS }
+    ensures small_opposing { result.opposing ≤ 127 }
+    ensures small_local { result.local ≤ 127 }
+{
+    match rows_found(tiles, places, level, edge.end_tile) {
+        Some(rows) => end_in(rows, edge),
+        None => End {
+            node: 0,
+            opposing: 0,
+            local: 0,
+        },
+    }
+}

@@ -1,0 +1,172 @@
+//! The records of a tile.
+ghost use Rattle.std.specs.Prelude.{◌≡◌, ◌≤◌, ◌<◌, ◌+◌, ◌++◌, length, slice_index_or, slice_range, IfOk, OnOk};
+ghost use Rattle.work_tile.specs.Places.{tile_numbers};
+ghost use Rattle.tile_numbers.specs.declared.room.TheConstants.{MOST_RECORDS};
+ghost use Rattle.tile_numbers.specs.LookUps.{no_rows, work_rows_at};
+ghost use Rattle.tile_numbers.specs.Records.{numbered_node, numbered_edge, numbered_edges, edges_of_rows, node_records_of, edge_records_of};
+ghost use Rattle.tile_numbers.specs.Limits.{IsRecordedEdge, IsRecordedNode, CanBeNumbered, TilesCanBeNumbered};
+
+use crate::ends::end_of;
+use graph_id::GraphId;
+use std::alloc::{AllocError, Global};
+use tile_records::{EdgeRec, NodeRec};
+use work_tile::{NodeView, Places, TileRows, WorkEdge, WorkTile};
+
+/// The records of a tile: its nodes in order, and the edges that start at them, node by node.
+#[derive(Debug, Drop)]
+pub struct NumberedTile {
+    pub nodes: Vec<NodeRec>,
+    pub edges: Vec<EdgeRec>,
+}
+
+/// The record of a node before which so many edges stand.
+fn node_record(before: u32, node: &NodeView<'_>) -> NodeRec
+    requires before { before ≤ MOST_RECORDS }
+    requires node { IsRecordedNode node.now }
+    ensures { result ≡ numbered_node before node.now }
+{
+    let at = node.at();
+    NodeRec {
+        osm: node.osm(),
+        lat: at.lat,
+        lon: at.lon,
+        edge_index: before,
+        transition_index: 0,
+        access: node.access(),
+        edge_count: node.edges_len() as u8,
+        transition_count: 0,
+        density: 0,
+        barrier: node.barrier(),
+    }
+}
+
+/// The record of an edge of a tile.
+fn edge_record(
+    tiles: &[WorkTile],
+    places: &Places,
+    level: u32,
+    tile: u32,
+    edge: &WorkEdge,
+    info: u32,
+) -> EdgeRec
+    requires tiles { TilesCanBeNumbered tiles.now }
+    requires places { places.now ≡ tile_numbers tiles.now }
+    requires level { level ≤ 2 }
+    requires edge { IsRecordedEdge edge.now }
+    ensures { result ≡ numbered_edge level tile (work_rows_at tiles.now level edge.now.end_tile) edge.now info }
+{
+    let end = end_of(tiles, places, level, edge);
+    let (mask, forward_access, reverse_access) = (
+        edge.mask,
+        edge.forward_access,
+        edge.reverse_access,
+    );
+    EdgeRec {
+        end: GraphId::make(level, edge.end_tile, end.node).unwrap(),
+        mask,
+        opposing: end.opposing,
+        cm: edge.cm,
+        local: edge.local,
+        opposing_local: end.local,
+        leaves_tile: edge.end_tile != tile,
+        shortcut: false,
+        not_thru: false,
+        forward: edge.key.forward,
+        flagged: edge.flagged,
+        in_chain: false,
+        forward_access,
+        reverse_access,
+        class: edge.class,
+        name_consistency: 0,
+        info,
+        chain: 0,
+    }
+}
+
+/// Puts the records of the edges of a node behind the others.
+fn push_edges(
+    edges: &mut Vec<EdgeRec>,
+    tiles: &[WorkTile],
+    places: &Places,
+    level: u32,
+    tile: u32,
+    node: &NodeView<'_>,
+    offsets: &[u32],
+) -> Result<(), AllocError>
+    requires tiles { TilesCanBeNumbered tiles.now }
+    requires places { places.now ≡ tile_numbers tiles.now }
+    requires level { level ≤ 2 }
+    requires node { IsRecordedNode node.now }
+    requires offsets { length offsets.now ≡ length node.now.edges }
+    ensures { OnOk result (edges.new.items ≡ edges.old.items ++ numbered_edges tiles.now level tile node.now.edges offsets.now) }
+{
+    for k in 0..node.edges_len() {
+        edges.push(edge_record(tiles, places, level, tile, &node.edge(k), offsets[k]))?;
+    }
+    Ok(())
+}
+
+/// The offsets from one index on and before another.
+fn part_of(offsets: &[u32], from: usize, to: usize) -> &[u32]
+    requires order { from ≤ to }
+    requires inside { to ≤ length offsets.now }
+    ensures part { result.now ≡ slice_range offsets.now from to }
+    ensures len { length result.now + from ≡ to }
+{
+    &offsets[from..to]
+}
+
+/// The records of a tile that has these rows.
+fn numbered(
+    alloc: Global,
+    tiles: &[WorkTile],
+    places: &Places,
+    rows: &TileRows,
+    offsets: &[u32],
+) -> Result<NumberedTile, AllocError>
+    requires tiles { TilesCanBeNumbered tiles.now }
+    requires places { places.now ≡ tile_numbers tiles.now }
+    requires rows { CanBeNumbered rows.now }
+    requires offsets { length offsets.now ≡ length (edges_of_rows rows.now) }
+    ensures nodes { IfOk result (λ t. t.nodes.items ≡ node_records_of rows.now) }
+    ensures edges { IfOk result (λ t. t.edges.items ≡ edge_records_of tiles.now rows.now offsets.now) }
+{
+    let mut nodes = Vec::with_capacity(alloc, rows.nodes_len())?;
+    let mut edges = Vec::with_capacity(alloc, offsets.len())?;
+    for k in 0..rows.nodes_len() {
+        let node = rows.node(k);
+        let from = edges.len();
+        let to = from + node.edges_len();
+        nodes.push(node_record(from as u32, &node))?;
+        push_edges(
+            &mut edges,
+            tiles,
+            places,
+            rows.level(),
+            rows.tile(),
+            &node,
+            part_of(offsets, from, to),
+        )?;
+    }
+    Ok(NumberedTile { nodes, edges })
+}
+
+/// The records of the tile with index `i` among tiles that rise by level and number. `places` are the places of these
+/// tiles, and `offsets` has for each edge of the tile, node by node, the byte offset of its piece's entry. A node is
+/// found by its OSM id in the time of a binary search, an opposing edge among the edges of its node.
+pub fn number_tile(
+    alloc: Global,
+    tiles: &[WorkTile],
+    places: &Places,
+    i: usize,
+    offsets: &[u32],
+) -> Result<NumberedTile, AllocError>
+    requires inside { i < length tiles.now }
+    requires tiles { TilesCanBeNumbered tiles.now }
+    requires places { places.now ≡ tile_numbers tiles.now }
+    requires offsets { length offsets.now ≡ length (edges_of_rows (slice_index_or tiles.now i no_rows)) }
+    ensures nodes { IfOk result (λ t. t.nodes.items ≡ node_records_of (slice_index_or tiles.now i no_rows)) }
+    ensures edges { IfOk result (λ t. t.edges.items ≡ edge_records_of tiles.now (slice_index_or tiles.now i no_rows) offsets.now) }
+{
+    numbered(alloc, tiles, places, tiles[i].rows(), offsets)
+}
