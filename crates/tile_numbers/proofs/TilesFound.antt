@@ -6,14 +6,14 @@ use Rattle.std.proofs.lemmas.Bool.{false_from_ne_true, and_parts, eqb-true}
 use Rattle.std.proofs.lemmas.List.{get_or-map, get_or_default, get_or_past, length-map}
 use Rattle.std.proofs.lemmas.List.Sums.{position_or_len_is}
 use Rattle.work_tile.specs.WorkRows.{WorkRows}
-use Rattle.work_tile.specs.Places.{tile_number, tile_numbers}
+use Rattle.work_tile.specs.Places.{tile_number, place_numbers}
 use Rattle.tile_numbers.specs.LookUps.{no_rows, has_tile_number, work_rows_at}
 use Rattle.tile_numbers.specs.Limits.{TilesCanBeNumbered}
 
 abbrev number : WorkRows → ℕ
 number t = tile_number t.level t.tile
 
-number_at : (tiles : List WorkRows) (k : ℕ) (d : WorkRows) → k < length tiles → slice_index (tile_numbers tiles) k ≡ number (get_or tiles k d)
+number_at : (tiles : List WorkRows) (k : ℕ) (d : WorkRows) → k < length tiles → slice_index (place_numbers tiles) k ≡ number (get_or tiles k d)
 number_at tiles k d h = get_or-map number tiles k d 0 h
 
 not_numbered : (level tile : ℕ) (t : WorkRows) → (tile_number level tile ≡ number t → ⊥) → has_tile_number level tile t ≡ false
@@ -28,7 +28,7 @@ is_numbered : (level tile : ℕ) (t : WorkRows) → level ≡ t.level → tile �
 is_numbered level tile t l m = ap (λ b. b && eqb tile t.tile) (eq-eqb level t.level l) ∙ eq-eqb tile t.tile m
 
 -- the tile that a number names
-pub tile_found : (tiles : List WorkRows) (numbers : List ℕ) (level tile i : ℕ) (t : WorkRows) → TilesCanBeNumbered tiles → numbers ≡ tile_numbers tiles
+pub tile_found : (tiles : List WorkRows) (numbers : List ℕ) (level tile i : ℕ) (t : WorkRows) → TilesCanBeNumbered tiles → numbers ≡ place_numbers tiles
     → tile < 2 ^ 32 → i < length numbers → slice_index numbers i ≡ tile_number level tile → t ≡ get_or tiles i t → t ≡ work_rows_at tiles level tile
 tile_found tiles numbers level tile i t can same low inside is here =
     let within : i < length tiles = omega (arith, inside, ap length same, length-map tiles number) in
@@ -47,7 +47,7 @@ tile_found tiles numbers level tile i t can same low inside is here =
     here ∙ get_or_default tiles i t no_rows within ∙ ap (λ k. get_or tiles k no_rows) (sym found)
 
 -- where no number is that of the tile, it isn't there
-pub no_tile : (tiles : List WorkRows) (numbers : List ℕ) (level tile : ℕ) → numbers ≡ tile_numbers tiles
+pub no_tile : (tiles : List WorkRows) (numbers : List ℕ) (level tile : ℕ) → numbers ≡ place_numbers tiles
     → ((k : ℕ) → k < length numbers → slice_index numbers k ≢ tile_number level tile) → work_rows_at tiles level tile ≡ no_rows
 no_tile tiles numbers level tile same none =
     let past : position_or_len (has_tile_number level tile) tiles ≡ length tiles =

@@ -5,7 +5,7 @@ use Rattle.osm_model.specs.Extract.{IdsRise}
 use Rattle.road_pieces.specs.declared.limits.TheConstants.{LONGEST_PIECE_CM}
 use Rattle.work_tile.specs.declared.edge_rows.WorkEdge.{WorkEdge}
 use Rattle.work_tile.specs.WorkRows.{WorkNode, WorkRows}
-use Rattle.work_tile.specs.Places.{tile_numbers, NumbersRise}
+use Rattle.work_tile.specs.Places.{place_numbers, NumbersRise}
 use Rattle.tile_numbers.specs.declared.room.TheConstants.{MOST_RECORDS}
 use Rattle.tile_numbers.specs.declared.room.TileFull.{TileFull}
 use Rattle.tile_numbers.specs.declared.room.What.TheVariants as kinds
@@ -43,7 +43,7 @@ pub record CanBeNumbered (rows : WorkRows) : Type 0 where
 
 -- tiles that rise strictly by level and number, each of which can be numbered
 pub record TilesCanBeNumbered (tiles : List WorkRows) : Type 0 where
-  pub rise : NumbersRise (tile_numbers tiles)
+  pub rise : NumbersRise (place_numbers tiles)
   pub each : All CanBeNumbered tiles
 
 -- ---- tiles that are full

@@ -5,7 +5,7 @@ ghost use Rattle.osm_model.specs.Extract.{IdsRise};
 ghost use Rattle.std.specs.List.{position, find};
 ghost use Rattle.std.specs.Option.{option_map};
 ghost use Rattle.work_tile.specs.WorkRows.{WorkNode};
-ghost use Rattle.work_tile.specs.Places.{tile_numbers};
+ghost use Rattle.work_tile.specs.Places.{place_numbers};
 ghost use Rattle.tile_numbers.specs.declared.room.TheConstants.{MOST_RECORDS};
 ghost use Rattle.tile_numbers.specs.LookUps.{no_rows, work_rows_at, node_index, runs_back, opposing_index, opposing_local_index};
 ghost use Rattle.tile_numbers.specs.Limits.{CanBeNumbered, TilesCanBeNumbered};
@@ -114,7 +114,7 @@ fn rows_found<'a>(
     tile: u32,
 ) -> Option<&'a TileRows>
     requires tiles { TilesCanBeNumbered tiles.now }
-    requires places { places.now ≡ tile_numbers tiles.now }
+    requires places { places.now ≡ place_numbers tiles.now }
     ensures some { IfSome result (λ rows. rows.now ≡ work_rows_at tiles.now level tile) }
     ensures none { IfNone result (work_rows_at tiles.now level tile ≡ no_rows) }
 {
@@ -127,7 +127,7 @@ fn rows_found<'a>(
 /// The end of an edge of a tile of this level.
 pub(crate) fn end_of(tiles: &[WorkTile], places: &Places, level: u32, edge: &WorkEdge) -> End
     requires tiles { TilesCanBeNumbered tiles.now }
-    requires places { places.now ≡ tile_numbers tiles.now }
+    requires places { places.now ≡ place_numbers tiles.now }
     ensures node { result.node ≡ node_index (work_rows_at tiles.now level edge.now.end_tile) edge.now.end }
     ensures opposing { result.opposing ≡ opposing_index (work_rows_at tiles.now level edge.now.end_tile) edge.now }
     ensures local { result.local ≡ opposing_local_index (work_rows_at tiles.now level edge.now.end_tile) edge.now }

@@ -1,6 +1,6 @@
 //! The records of a tile.
 ghost use Rattle.std.specs.Prelude.{◌≡◌, ◌≤◌, ◌<◌, ◌+◌, ◌++◌, length, slice_index_or, slice_range, IfOk, OnOk};
-ghost use Rattle.work_tile.specs.Places.{tile_numbers};
+ghost use Rattle.work_tile.specs.Places.{place_numbers};
 ghost use Rattle.tile_numbers.specs.declared.room.TheConstants.{MOST_RECORDS};
 ghost use Rattle.tile_numbers.specs.LookUps.{no_rows, work_rows_at};
 ghost use Rattle.tile_numbers.specs.Records.{numbered_node, numbered_edge, numbered_edges, edges_of_rows, node_records_of, edge_records_of};
@@ -50,7 +50,7 @@ fn edge_record(
     info: u32,
 ) -> EdgeRec
     requires tiles { TilesCanBeNumbered tiles.now }
-    requires places { places.now ≡ tile_numbers tiles.now }
+    requires places { places.now ≡ place_numbers tiles.now }
     requires level { level ≤ 2 }
     requires edge { IsRecordedEdge edge.now }
     ensures { result ≡ numbered_edge level tile (work_rows_at tiles.now level edge.now.end_tile) edge.now info }
@@ -94,7 +94,7 @@ fn push_edges(
     offsets: &[u32],
 ) -> Result<(), AllocError>
     requires tiles { TilesCanBeNumbered tiles.now }
-    requires places { places.now ≡ tile_numbers tiles.now }
+    requires places { places.now ≡ place_numbers tiles.now }
     requires level { level ≤ 2 }
     requires node { IsRecordedNode node.now }
     requires offsets { length offsets.now ≡ length node.now.edges }
@@ -125,7 +125,7 @@ fn numbered(
     offsets: &[u32],
 ) -> Result<NumberedTile, AllocError>
     requires tiles { TilesCanBeNumbered tiles.now }
-    requires places { places.now ≡ tile_numbers tiles.now }
+    requires places { places.now ≡ place_numbers tiles.now }
     requires rows { CanBeNumbered rows.now }
     requires offsets { length offsets.now ≡ length (edges_of_rows rows.now) }
     ensures nodes { IfOk result (λ t. t.nodes.items ≡ node_records_of rows.now) }
@@ -163,7 +163,7 @@ pub fn number_tile(
 ) -> Result<NumberedTile, AllocError>
     requires inside { i < length tiles.now }
     requires tiles { TilesCanBeNumbered tiles.now }
-    requires places { places.now ≡ tile_numbers tiles.now }
+    requires places { places.now ≡ place_numbers tiles.now }
     requires offsets { length offsets.now ≡ length (edges_of_rows (slice_index_or tiles.now i no_rows)) }
     ensures nodes { IfOk result (λ t. t.nodes.items ≡ node_records_of (slice_index_or tiles.now i no_rows)) }
     ensures edges { IfOk result (λ t. t.edges.items ≡ edge_records_of tiles.now (slice_index_or tiles.now i no_rows) offsets.now) }

@@ -6,8 +6,8 @@ use Rattle.work_tile.specs.WorkRows.{WorkRows}
 abbrev pub tile_number : ℕ → ℕ → ℕ
 tile_number level tile = level * 4_294_967_296 + tile
 
-abbrev pub tile_numbers : List WorkRows → List ℕ
-tile_numbers tiles = map (λ t. tile_number t.level t.tile) tiles
+abbrev pub place_numbers : List WorkRows → List ℕ
+place_numbers tiles = map (λ t. tile_number t.level t.tile) tiles
 
 -- each number is below those behind it
 abbrev pub NumbersRise : List ℕ → Type 0

@@ -18,8 +18,8 @@ pub record WorkRows : Type 0 where
   pub nodes : List WorkNode
 
 -- the node of a junction, with these edges
-abbrev pub node_with : Junction → List WorkEdge → WorkNode
-node_with junction edges = record {
+abbrev pub work_node_with : Junction → List WorkEdge → WorkNode
+work_node_with junction edges = record {
   osm = junction.osm;
   at = junction.at;
   access = junction.access;
@@ -42,7 +42,7 @@ first_from (r ∷ rs) end = r.from
 unfoldable pub nodes_over : List WorkEdge → List NodeRow → List WorkNode
 nodes_over edges [] = []
 nodes_over edges (r ∷ rs) =
-    node_with r.junction (slice_range edges r.from (first_from rs (length edges))) ∷ nodes_over edges rs
+    work_node_with r.junction (slice_range edges r.from (first_from rs (length edges))) ∷ nodes_over edges rs
 
 -- no node's edges begin behind those of the next, nor behind the end of all edges
 unfoldable pub FromsRise : List NodeRow → ℕ → Type 0

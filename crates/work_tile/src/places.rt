@@ -1,6 +1,6 @@
 //! Which tiles there are, in order.
 ghost use Rattle.std.specs.Prelude.{◌≡◌, ◌≢◌, ◌<◌, ℕ, length, slice_index, IfOk, IfSome, IfNone};
-ghost use Rattle.work_tile.specs.Places.{tile_number, tile_numbers, NumbersRise};
+ghost use Rattle.work_tile.specs.Places.{tile_number, place_numbers, NumbersRise};
 
 use crate::tiles::WorkTile;
 use std::alloc::{AllocError, Global};
@@ -43,8 +43,8 @@ fn find(numbers: &[u64], number: u64) -> Option<usize>
 impl Places {
     /// The places of tiles that rise strictly by level and number.
     pub fn of_tiles(alloc: Global, tiles: &[WorkTile]) -> Result<Places, AllocError>
-        requires { NumbersRise (tile_numbers tiles.now) }
-        ensures { IfOk result (λ places. places ≡ tile_numbers tiles.now) }
+        requires { NumbersRise (place_numbers tiles.now) }
+        ensures { IfOk result (λ places. places ≡ place_numbers tiles.now) }
     {
         let mut numbers = Vec::new(alloc);
         for tile in tiles {

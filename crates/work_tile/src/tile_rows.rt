@@ -1,6 +1,6 @@
 //! The nodes of a tile, each with the edges that start there.
 ghost use Rattle.std.specs.Prelude.{◌≡◌, ◌<◌, ◌≤◌, ◌+◌, ◌++◌, ◌∷◌, [], List, length, OnOk, OnErr, slice_index_or, drop, sum_by};
-ghost use Rattle.work_tile.specs.WorkRows.{WorkNode, node_with, with_edge, first_from};
+ghost use Rattle.work_tile.specs.WorkRows.{WorkNode, work_node_with, with_edge, first_from};
 
 use crate::edge_rows::{EdgeRows, WorkEdge};
 use crate::node_rows::{NodeRow, NodeRows};
@@ -60,7 +60,7 @@ impl TileRows {
     /// Puts the node of a junction after the last one, as yet without an edge. Without memory, or past 4,294,967,295
     /// edges, the tile stays as it was.
     pub fn push_node(&mut self, junction: Junction) -> Result<(), AllocError>
-        ensures ok { OnOk result (self.new ≡ record self.old { nodes = self.old.nodes ++ node_with junction [] ∷ [] }) }
+        ensures ok { OnOk result (self.new ≡ record self.old { nodes = self.old.nodes ++ work_node_with junction [] ∷ [] }) }
         ensures err { OnErr result (self.new ≡ self.old) }
     {
         let from = self.edges.len();
@@ -140,11 +140,11 @@ pub struct NodeView<'a> {
 
 impl<'a> Model for NodeView<'a> {
     ghost use Rattle.std.specs.Prelude.{◌≤◌, length, slice_range};
-    ghost use Rattle.work_tile.specs.WorkRows.{WorkNode, node_with};
+    ghost use Rattle.work_tile.specs.WorkRows.{WorkNode, work_node_with};
 
     ghost Value = { WorkNode };
 
-    ghost view = { λ v. node_with v.junction (slice_range v.edges.now v.from v.to) };
+    ghost view = { λ v. work_node_with v.junction (slice_range v.edges.now v.from v.to) };
 
     ghost invariant = { λ v. (v.from ≤ v.to) × (v.to ≤ length v.edges.now) };
 }
@@ -152,7 +152,7 @@ impl<'a> Model for NodeView<'a> {
 impl<'a> NodeView<'a> {
     /// The node without its edges.
     pub fn junction(&self) -> Junction
-        ensures { node_with result self.now.edges ≡ self.now }
+        ensures { work_node_with result self.now.edges ≡ self.now }
     {
         self.junction
     }
