@@ -10,7 +10,7 @@ use road_pieces::NamesView;
 use std::alloc::{AllocError, Global};
 use std::collections::BTreeMap;
 
-/// A number of texts in 32 bits. Where it is greater, no memory holds them.
+/// A number of texts in 32 bits. It is never greater: a list of pieces numbers the texts of its names in 32 bits.
 fn in_32_bits(count: usize) -> Result<u32, AllocError>
     ensures { IfOk result (λ n. n ≡ count) }
 {

@@ -31,8 +31,8 @@ fn size_of_all(infos: &Infos) -> Result<u64, AllocError>
 
 /// The entries of the pieces at these places, in that order; the texts that they name, each where it is first named;
 /// and the offset in bytes at which each entry starts, of which the first is 0. An offset is exact, also where it is past
-/// 4,294,967,295, which an edge of a tile can't say. Fails for want of memory alone: so are more than 4,294,967,296 texts
-/// and entries of 2^64 bytes taken, which no memory holds.
+/// 4,294,967,295, which an edge of a tile can't say. Fails for want of memory alone; more than 4,294,967,296 texts and
+/// entries of 2^64 bytes are answered so too, but no list of pieces has so many names, and no memory so many bytes.
 pub fn tile_infos(alloc: Global, pieces: &Pieces, places: &[u32]) -> Result<TileInfos, AllocError>
     requires { All (λ place. place < length pieces.now) places.now }
     ensures infos { IfOk result (λ made. made.infos ≡ entries_of_pieces (pieces_at pieces.now places.now)) }
