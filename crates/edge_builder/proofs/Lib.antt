@@ -4,6 +4,7 @@ pub mod EdgeLemmas
 pub mod GroupLemmas
 pub mod JunctionLemmas
 pub mod NodeLemmas
+pub mod RoadLemmas
 pub mod RowLemmas
 pub mod TileLemmas
 pub mod UsedTiles

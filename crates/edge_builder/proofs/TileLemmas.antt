@@ -17,11 +17,11 @@ use Rattle.edge_builder.proofs.RowLemmas.{stops_map, stops_read, edges_count}
 
 -- ---- where no junction is crowded
 
-none_found : {A B : Type 0} (f : A → B) (o : Option A) → option_map f o ≡ None → o ≡ None
+pub none_found : {A B : Type 0} (f : A → B) (o : Option A) → option_map f o ≡ None → o ≡ None
 none_found f (Some x) h = absurd (none-some (f x) (sym h))
 none_found f None h = refl
 
-fails_at : {A : Type 0} (test : A → Bool) (xs : List A) (i : ℕ) (d : A) → find test xs ≡ None → i < length xs → test (get_or xs i d) ≡ false
+pub fails_at : {A : Type 0} (test : A → Bool) (xs : List A) (i : ℕ) (d : A) → find test xs ≡ None → i < length xs → test (get_or xs i d) ≡ false
 fails_at test [] i d h l = absurd (omega (arith, l))
 fails_at test (x ∷ xs) i d h l = by (test x) refl h i l (fails_at test xs)
   where

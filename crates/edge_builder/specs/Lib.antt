@@ -1,3 +1,4 @@
 pub mod BaseRows
 pub mod BaseTiles
 pub mod Groups
+pub mod RoadLaws

@@ -6,8 +6,10 @@ mod crowds;
 mod edges;
 mod faults;
 mod groups;
+mod laws;
 mod starts;
 mod tiles;
 
 pub use base::base_tiles;
 pub use faults::BaseFault;
+pub use laws::extract_roads;
