@@ -1,0 +1,2 @@
+mod NodesPass
+mod EdgesPass

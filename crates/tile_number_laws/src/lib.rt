@@ -1,0 +1,6 @@
+//! Laws: the records of work tiles pass the checks of a tile file on nodes and edges.
+#![tactic(auto)]
+
+mod laws;
+
+pub use laws::{numbered_counts_agree, numbered_edges_pass, numbered_nodes_pass};
