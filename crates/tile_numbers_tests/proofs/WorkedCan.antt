@@ -1,6 +1,6 @@
 -- The worked tiles can be numbered.
-use Rattle.std.proofs.Common.{◌≡◌, ℕ, zero, suc, ◌+◌, ◌*◌, ◌<◌, ◌≤◌, ℤ, pos, Bool, true, false, List, [], ◌∷◌, length, sym, subst, arith}
-use Rattle.std.specs.Prelude.{◌<ℤ◌, All, slice_index}
+use Rattle.std.proofs.Common.{◌≡◌, ℕ, zero, suc, ◌<◌, ◌≤◌, ℤ, pos, Bool, true, false, List, [], ◌∷◌, length, sym, subst, arith}
+use Rattle.std.specs.Prelude.{◌<ℤ◌, slice_index}
 use Rattle.std.proofs.lemmas.Int.{ints}
 use Rattle.std.proofs.lemmas.List.Elements.{All-cons, All-nil}
 use Rattle.std.proofs.lemmas.List.Kept.{AllPairs-cons}
@@ -8,9 +8,8 @@ use Rattle.osm_model.specs.Extract.{IdsRise}
 use Rattle.road_pieces.specs.declared.rows.Junction.{Junction}
 use Rattle.work_tile.specs.declared.edge_rows.WorkEdge.{WorkEdge}
 use Rattle.work_tile.specs.WorkRows.{WorkNode, WorkRows, work_node_with}
-use Rattle.work_tile.specs.Places.{tile_number, place_numbers, NumbersRise}
-use Rattle.tile_numbers.specs.declared.room.TheConstants.{MOST_RECORDS}
-use Rattle.tile_numbers.specs.Limits.{IsRecordedEdge, IsRecordedNode, CanBeNumbered, TilesCanBeNumbered, HasRoom, edge_total}
+use Rattle.work_tile.specs.Places.{tile_number}
+use Rattle.tile_numbers.specs.Limits.{IsRecordedEdge, IsRecordedNode, CanBeNumbered, TilesCanBeNumbered}
 use Rattle.tile_numbers_tests.specs.Worked.{worked_edge, worked_junction, first_node, second_node, third_node, fifth_node, seventh_node, first_rows, second_rows, third_rows, worked_tiles}
 
 rise_three : (a b c : ℕ) → a < b → b < c → (i j : ℕ) → i < j → j < length (a ∷ b ∷ c ∷ []) → slice_index (a ∷ b ∷ c ∷ []) i < slice_index (a ∷ b ∷ c ∷ []) j

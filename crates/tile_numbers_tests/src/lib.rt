@@ -7,3 +7,5 @@ pub use worked::numbered_worked;
 
 #[cfg(test)]
 mod records;
+#[cfg(test)]
+mod room;

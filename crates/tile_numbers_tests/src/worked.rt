@@ -37,7 +37,7 @@ fn edge(way: u32, forward: bool, end: u32, end_tile: u32, local: u8) -> WorkEdge
 }
 
 /// A junction on the equator.
-fn junction(osm: u32, lon: u16) -> Junction
+pub(crate) fn junction(osm: u32, lon: u16) -> Junction
     ensures { result ≡ worked_junction (pos osm) (pos lon) }
 {
     Junction {

@@ -1,4 +1,4 @@
-use Rattle.std.proofs.Common.{◌≡◌, ◌∙◌, ap, List, [], ◌∷◌, ◌++◌}
+use Rattle.std.proofs.Common.{◌∙◌, ap, List, [], ◌∷◌, ◌++◌}
 use Rattle.work_tile.specs.WorkRows.{WorkRows}
 use Rattle.tile_numbers_tests.specs.Worked.{worked_tiles}
 use Rattle.tile_numbers_tests.proofs.worked.tiles.Goals as goal
