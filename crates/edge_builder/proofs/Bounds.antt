@@ -19,12 +19,12 @@ below_count js tiles bound placed are is k d h =
     let counted = grid_counted 2 (get_or js k no_junction).at (placed k no_junction low) in
     omega (arith, tile, counted, is)
 
-all_joined : (js : List Junction) (ps : List Piece) (p : Piece) → All (IsJoined js) ps → IsIn ps p → IsJoined js p
+pub all_joined : (js : List Junction) (ps : List Piece) (p : Piece) → All (IsJoined js) ps → IsIn ps p → IsJoined js p
 all_joined js ps p joined h =
     let (k, (low, is)) = at_in ps p h in
     subst (IsJoined js) (is p) (joined k p low)
 
-start_inside : (js : List Junction) (p : Piece) (e : DirectedRow) → IsJoined js p → IsIn (both_rows p) e → junction_place js (row_start e) < length js
+pub start_inside : (js : List Junction) (p : Piece) (e : DirectedRow) → IsJoined js p → IsIn (both_rows p) e → junction_place js (row_start e) < length js
 start_inside js p e joined (inl is) = subst (λ r. junction_place js (row_start r) < length js) is joined.start
 start_inside js p e joined (inr (inl is)) = subst (λ r. junction_place js (row_start r) < length js) is joined.end
 start_inside js p e joined (inr (inr h)) = absurd h

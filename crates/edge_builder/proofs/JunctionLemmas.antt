@@ -17,7 +17,7 @@ no_junction = record { osm = pos 0; at = record { lat = pos 0; lon = pos 0 }; ac
 pub id_there : (js : List Junction) (id : ℤ) (d : Junction) → junction_place js id < length js → (get_or js (junction_place js id) d).osm ≡ id
 id_there js id d h = (signed_Decides _ _).0 (passes_at_first (λ j. int_eq j.osm id) js d h)
 
-below_differs : (a b : ℤ) → a <ℤ b → int_eq a b ≡ false
+pub below_differs : (a b : ℤ) → a <ℤ b → int_eq a b ≡ false
 below_differs a b h = false_from_ne_true (int_eq a b) (λ e. absurd (omega (arith, ints, (signed_Decides a b).0 e)))
 
 pub place_is : (js : List Junction) (m : ℕ) (id : ℤ) (d : Junction) → JunctionsRise js → m < length js → (get_or js m d).osm ≡ id → junction_place js id ≡ m

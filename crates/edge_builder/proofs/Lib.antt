@@ -8,3 +8,6 @@ pub mod RoadLemmas
 pub mod RowLemmas
 pub mod TileLemmas
 pub mod UsedTiles
+pub mod StageRows
+pub mod PieceStarts
+pub mod StageTiles

@@ -58,7 +58,7 @@ module _ (x : Extract) where
       let (i, (low, same)) = at_in x.nodes n inside in
       subst (λ j. IsPlace j.at) is (place_of_node n (subst IsPlaced (same n) (x.placed i n low)))
 
-  rise : JunctionsRise junctions
+  pub rise : JunctionsRise junctions
   rise i j d h l =
       let low : j < length kept = omega (arith, l, length-map kept junction_row) in
       let (n, there) = some_node kept j low in
@@ -164,7 +164,7 @@ module _ (x : Extract) where
   its_junction row c k h is =
       junction_there x (get_or c.nodes k (pos 0)) is (runs_known x.nodes c.way.refs c.nodes (is_routable c.way.tags) (get_or c.nodes k (pos 0)) c.there (in_at c.nodes k (pos 0) (get_or c.nodes k (pos 0)) h refl))
 
-  joined : All (IsJoined (junction_rows x)) (piece_rows x)
+  pub joined : All (IsJoined (junction_rows x)) (piece_rows x)
   joined k d h =
       let row = get_or (piece_rows x) k d in
       let c : IsCut x row = cut_so row (in_at (piece_rows x) k d row h refl) in

@@ -2,3 +2,4 @@ pub mod BaseRows
 pub mod BaseTiles
 pub mod Groups
 pub mod RoadLaws
+pub mod BaseStages

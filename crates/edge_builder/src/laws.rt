@@ -1,9 +1,16 @@
 //! Laws of roads, which hold by the definitions alone.
 
+ghost use Rattle.edge_builder.specs.BaseStages.{BaseStage};
 ghost use Rattle.edge_builder.specs.RoadLaws.{ExtractRoads};
 
 /// The roads of each extract that aren't refused are what `base_tiles` asks for: each junction is at a place on the
 /// earth, they are in order of id, each piece starts and ends at one of them, and none is longer than a tile can tell.
 pub fn extract_roads()
     ensures { ExtractRoads }
+{}
+
+/// The base tiles of the roads of an extract are the first stage of a build: all its directed pieces, in tiles of
+/// level 2.
+pub fn base_stage()
+    ensures { BaseStage }
 {}
