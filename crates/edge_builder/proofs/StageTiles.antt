@@ -28,7 +28,7 @@ use Rattle.road_walks.proofs.Locals.{in_filter, in_directed}
 use Rattle.road_walks.proofs.Sorted.{Sorted, of_filter, in_rising, of_rising, numbers_connected, nodes_connected, below_self, below_on, node_never, node_on, one_sorted, sorted_filter, rising_sorted}
 use Rattle.edge_builder.specs.BaseRows.{DirectedRow, both_rows, directed_rows, row_start, base_rows, junction_tile, junction_place}
 use Rattle.edge_builder.specs.BaseTiles.{base_edge, base_node, junctions_in, base_tile, base_tiles_of}
-use Rattle.edge_builder.specs.BaseStages.{AreAlike, IsEdgeOf, IsNodeOf, IsTileOf, node_tile, BaseStage}
+use Rattle.edge_builder.specs.BaseStages.{ArePairwise, IsEdgeOf, IsNodeOf, IsTileOf, node_tile, BaseStage}
 use Rattle.edge_builder.proofs.Bounds.{all_joined, start_inside}
 use Rattle.edge_builder.proofs.JunctionLemmas.{no_junction, id_there, below_differs}
 use Rattle.edge_builder.proofs.RoadLemmas.{joined, rise}
@@ -37,7 +37,7 @@ use Rattle.edge_builder.proofs.StageRows.{IsDirected, alike_filter, rows_alike}
 
 -- ---- lists
 
-of_alike : {A B : Type 0} (Is : A → B → Type 0) (es : List A) (bs : List B) → AreAlike Is es bs → (b : B) → IsIn bs b → (a : A) × (IsIn es a × Is a b)
+of_alike : {A B : Type 0} (Is : A → B → Type 0) (es : List A) (bs : List B) → ArePairwise Is es bs → (b : B) → IsIn bs b → (a : A) × (IsIn es a × Is a b)
 of_alike Is [] [] h b k = absurd k
 of_alike Is [] (c ∷ bs) h b k = absurd h
 of_alike Is (a ∷ es) [] h b k = absurd k
@@ -59,7 +59,7 @@ ids_sorted (j ∷ is) h = (
   ids_sorted is (λ a b d l m. h (suc a) (suc b) d (omega (arith, l)) (omega (arith, m))),
 )
 
-edges_alike : (x : Extract) (js : List Junction) (k : ℕ) (rows : List DirectedRow) (ps : List DirectedPiece) → AreAlike (IsDirected x) rows ps → AreAlike (IsEdgeOf x) (map (base_edge js) (enumerate_from k rows)) ps
+edges_alike : (x : Extract) (js : List Junction) (k : ℕ) (rows : List DirectedRow) (ps : List DirectedPiece) → ArePairwise (IsDirected x) rows ps → ArePairwise (IsEdgeOf x) (map (base_edge js) (enumerate_from k rows)) ps
 edges_alike x js k [] [] h = tt
 edges_alike x js k [] (p ∷ ps) h = absurd h
 edges_alike x js k (row ∷ rows) [] h = absurd h
@@ -144,7 +144,7 @@ module _ (x : Extract) where
       let its_tile : junction_tile j ≡ c = tile_is j there ∙ (ap (node_tile x 2) (id ∙ starts) ∙ eqb-true (node_tile x 2 n) c tile) in
       subst (IsIn (ids_in c)) (id ∙ starts) (in_map (λ j. j.osm) (junctions_in js c) j (in_filter (λ j. nat_eq (junction_tile j) c) js j there (eq-eqb (junction_tile j) c its_tile))))
 
-  nodes_alike : (is : List Junction) → AreAlike (IsNodeOf x) (map (base_node js ps) is) (map (stage_node x (node_tile x) ds) (map (λ j. j.osm) is))
+  nodes_alike : (is : List Junction) → ArePairwise (IsNodeOf x) (map (base_node js ps) is) (map (stage_node x (node_tile x) ds) (map (λ j. j.osm) is))
   nodes_alike [] = tt
   nodes_alike (j ∷ is) = (
     record {
@@ -155,19 +155,19 @@ module _ (x : Extract) where
     nodes_alike is,
   )
 
-  tiles_alike : (cs : List ℕ) → AreAlike (IsTileOf x) (map (base_tile js ps) cs) (map (stage_tile x (node_tile x) ds 2) cs)
+  tiles_alike : (cs : List ℕ) → ArePairwise (IsTileOf x) (map (base_tile js ps) cs) (map (stage_tile x (node_tile x) ds 2) cs)
   tiles_alike [] = tt
   tiles_alike (c ∷ cs) = (
     record {
       level = refl;
       tile = refl;
-      nodes = subst (λ ns. AreAlike (IsNodeOf x) (map (base_node js ps) (junctions_in js c)) (map (stage_node x (node_tile x) ds) ns)) (nodes_are c) (nodes_alike (junctions_in js c));
+      nodes = subst (λ ns. ArePairwise (IsNodeOf x) (map (base_node js ps) (junctions_in js c)) (map (stage_node x (node_tile x) ds) ns)) (nodes_are c) (nodes_alike (junctions_in js c));
     },
     tiles_alike cs,
   )
 
-  stage_is : AreAlike (IsTileOf x) (base_tiles_of js ps) (stage x (node_tile x) ds 2)
-  stage_is = subst (λ cs. AreAlike (IsTileOf x) (base_tiles_of js ps) (map (stage_tile x (node_tile x) ds 2) cs)) tiles_are (tiles_alike (rising nat_lt (map junction_tile js)))
+  stage_is : ArePairwise (IsTileOf x) (base_tiles_of js ps) (stage x (node_tile x) ds 2)
+  stage_is = subst (λ cs. ArePairwise (IsTileOf x) (base_tiles_of js ps) (map (stage_tile x (node_tile x) ds 2) cs)) tiles_are (tiles_alike (rising nat_lt (map junction_tile js)))
 
 pub base_stage_is : BaseStage
 base_stage_is x = stage_is x

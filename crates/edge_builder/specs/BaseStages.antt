@@ -13,11 +13,11 @@ use Rattle.work_tile.specs.WorkRows.{WorkNode, WorkRows}
 use Rattle.edge_builder.specs.BaseTiles.{base_tiles_of}
 
 -- two lists have the same length, and are alike element by element
-abbrev pub AreAlike : {A B : Type 0} → (A → B → Type 0) → List A → List B → Type 0
-AreAlike Is [] [] = Unit {0}
-AreAlike Is [] (b ∷ bs) = ⊥
-AreAlike Is (a ∷ es) [] = ⊥
-AreAlike Is (a ∷ es) (b ∷ bs) = Is a b × AreAlike Is es bs
+abbrev pub ArePairwise : {A B : Type 0} → (A → B → Type 0) → List A → List B → Type 0
+ArePairwise Is [] [] = Unit {0}
+ArePairwise Is [] (b ∷ bs) = ⊥
+ArePairwise Is (a ∷ es) [] = ⊥
+ArePairwise Is (a ∷ es) (b ∷ bs) = Is a b × ArePairwise Is es bs
 
 -- an edge is a directed piece: of the same run, in the same direction, with the same end
 pub record IsEdgeOf (x : Extract) (e : WorkEdge) (p : DirectedPiece) : Type 0 where
@@ -28,16 +28,16 @@ pub record IsEdgeOf (x : Extract) (e : WorkEdge) (p : DirectedPiece) : Type 0 wh
 
 pub record IsNodeOf (x : Extract) (n : WorkNode) (s : StageNode) : Type 0 where
   pub osm : n.osm ≡ s.osm
-  pub edges : AreAlike (IsEdgeOf x) n.edges s.edges
+  pub edges : ArePairwise (IsEdgeOf x) n.edges s.edges
 
 pub record IsTileOf (x : Extract) (t : WorkRows) (s : StageTile) : Type 0 where
   pub level : t.level ≡ s.level
   pub tile : t.tile ≡ s.tile
-  pub nodes : AreAlike (IsNodeOf x) t.nodes s.nodes
+  pub nodes : ArePairwise (IsNodeOf x) t.nodes s.nodes
 
 -- the tile of a level in which a node lies
 abbrev pub node_tile : Extract → ℕ → ℤ → ℕ
 node_tile x k n = grid_tile k (point x.nodes n)
 
 abbrev pub BaseStage : Type 0
-BaseStage = (x : Extract) → AreAlike (IsTileOf x) (base_tiles_of (junction_rows x) (piece_rows x)) (stage x (node_tile x) (directed_pieces x) 2)
+BaseStage = (x : Extract) → ArePairwise (IsTileOf x) (base_tiles_of (junction_rows x) (piece_rows x)) (stage x (node_tile x) (directed_pieces x) 2)
