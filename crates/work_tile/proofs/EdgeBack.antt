@@ -15,6 +15,7 @@ pub record EdgeInRange (e : WorkEdge) : Type 0 where
   pub way : FitsSigned w64 e.key.key.way
   pub run : e.key.key.run < 2 ^ 32
   pub piece : e.key.key.piece < 2 ^ 32
+  pub place : e.place < 2 ^ 32
   pub end : FitsSigned w64 e.end
   pub end_tile : e.end_tile < 2 ^ 32
   pub cm : e.cm < 2 ^ 32
@@ -24,12 +25,13 @@ pub record EdgeInRange (e : WorkEdge) : Type 0 where
   pub class : e.class < 2 ^ 8
   pub mask : e.mask < 2 ^ 8
 
-edge_from : (a b c d f : List (ℕ × ℕ)) → WorkEdge
-edge_from a b c d f = record {
+edge_from : (a b c d f g : List (ℕ × ℕ)) → WorkEdge
+edge_from a b c d f g = record {
   key = record {
     key = record { way = cast_signed w64 (number a 0); run = number b 0; piece = number b 1 };
     forward = eqb (number f 5) 1;
   };
+  place = number g 0;
   end = cast_signed w64 (number c 0);
   end_tile = number d 0;
   cm = number d 1;
@@ -41,8 +43,8 @@ edge_from a b c d f = record {
   flagged = eqb (number f 6) 1;
 }
 
-same_parts : {a a' b b' c c' d d' f f' : List (ℕ × ℕ)} → a ≡ a' → b ≡ b' → c ≡ c' → d ≡ d' → f ≡ f' → edge_from a b c d f ≡ edge_from a' b' c' d' f'
-same_parts e0 e1 e2 e3 e4 = cc
+same_parts : {a a' b b' c c' d d' f f' g g' : List (ℕ × ℕ)} → a ≡ a' → b ≡ b' → c ≡ c' → d ≡ d' → f ≡ f' → g ≡ g' → edge_from a b c d f g ≡ edge_from a' b' c' d' f' g'
+same_parts e0 e1 e2 e3 e4 e5 = cc
 
 -- the fields of a word of an edge, and what is read of it
 abbrev part : WorkEdge → ℕ → List (ℕ × ℕ)
@@ -58,14 +60,15 @@ module _ (back : (fields : List (ℕ × ℕ)) → FieldsFit fields → fields_fr
   pub edge_again : (e : WorkEdge) → EdgeInRange e → work_edge_of (work_edge_words e) ≡ e
   unfolding work_edge_of work_edge_words edge_from
   edge_again e r =
-      let one : work_edge_of (work_edge_words e) ≡ edge_from (again e 0) (again e 1) (again e 2) (again e 3) (again e 4) = refl in
-      let two : edge_from (again e 0) (again e 1) (again e 2) (again e 3) (again e 4) ≡ edge_from (part e 0) (part e 1) (part e 2) (part e 3) (part e 4) =
+      let one : work_edge_of (work_edge_words e) ≡ edge_from (again e 0) (again e 1) (again e 2) (again e 3) (again e 4) (again e 5) = refl in
+      let two : edge_from (again e 0) (again e 1) (again e 2) (again e 3) (again e 4) (again e 5) ≡ edge_from (part e 0) (part e 1) (part e 2) (part e 3) (part e 4) (part e 5) =
       same_parts
       (back (part e 0) (word_below e.key.key.way r.way, tt))
       (back (part e 1) (r.run, (r.piece, tt)))
       (back (part e 2) (word_below e.end r.end, tt))
       (back (part e 3) (r.end_tile, (r.cm, tt)))
-      (back (part e 4) (r.forward_access, (r.reverse_access, (r.local, (r.class, (r.mask, (bool_fits e.key.forward, (bool_fits e.flagged, tt)))))))) in
-      let three : edge_from (part e 0) (part e 1) (part e 2) (part e 3) (part e 4) ≡ e =
+      (back (part e 4) (r.forward_access, (r.reverse_access, (r.local, (r.class, (r.mask, (bool_fits e.key.forward, (bool_fits e.flagged, tt))))))))
+      (back (part e 5) (r.place, tt)) in
+      let three : edge_from (part e 0) (part e 1) (part e 2) (part e 3) (part e 4) (part e 5) ≡ e =
       rw (to_z-of_z w64 e.key.key.way r.way, to_z-of_z w64 e.end r.end, bool_back e.key.forward, bool_back e.flagged) refl in
       one ∙ two ∙ three

@@ -1,4 +1,4 @@
--- The row of an edge in its five words.
+-- The row of an edge in its six words.
 use Rattle.std.specs.Prelude.{ℕ, List, [], ◌∷◌, nat_eq}
 use Rattle.std.specs.Int.{w64, cast_unsigned, cast_signed, from_bool}
 use Rattle.bit_words.specs.Bits.{word_of}
@@ -22,6 +22,7 @@ pub record WorkEdgeLayout : Type 0 where
   pub mask : BitSpan
   pub forward : BitSpan
   pub flagged : BitSpan
+  pub place : BitSpan
 
 -- each field's word, first bit and width; the bits above the last field are spare
 abbrev pub work_edge_layout : WorkEdgeLayout
@@ -39,6 +40,7 @@ work_edge_layout = record {
   mask = span 4 48 8;
   forward = span 4 56 1;
   flagged = span 4 57 1;
+  place = span 5 0 32;
 }
 
 -- ---- the words
@@ -59,12 +61,13 @@ work_edge_parts e =
     ∷ (work_edge_layout.mask, e.mask)
     ∷ (work_edge_layout.forward, from_bool e.key.forward)
     ∷ (work_edge_layout.flagged, from_bool e.flagged)
+    ∷ (work_edge_layout.place, e.place)
     ∷ []
 
 abbrev pub work_edge_word : WorkEdge → ℕ → ℕ
 work_edge_word e word = word_of (fields_of_word word (work_edge_parts e))
 
--- the five words of an edge
+-- the six words of an edge
 unfoldable pub work_edge_words : WorkEdge → List ℕ
 work_edge_words e =
     work_edge_word e 0
@@ -72,9 +75,10 @@ work_edge_words e =
     ∷ work_edge_word e 2
     ∷ work_edge_word e 3
     ∷ work_edge_word e 4
+    ∷ work_edge_word e 5
     ∷ []
 
--- the edge that five words have
+-- the edge that six words have
 unfoldable pub work_edge_of : List ℕ → WorkEdge
 work_edge_of words = record {
   key = record {
@@ -85,6 +89,7 @@ work_edge_of words = record {
     };
     forward = nat_eq (number_in words work_edge_layout.forward) 1;
   };
+  place = number_in words work_edge_layout.place;
   end = cast_signed w64 (number_in words work_edge_layout.end);
   end_tile = number_in words work_edge_layout.end_tile;
   cm = number_in words work_edge_layout.cm;

@@ -8,9 +8,9 @@ use std::alloc::{AllocError, Global};
 use std::marker::Model;
 
 /// The words of a row.
-const WIDTH: usize = 5;
+const WIDTH: usize = 6;
 
-/// A directed piece, at the junction where it starts. `end` is the OSM id of the junction where it ends, and
+/// A directed piece, at the junction where it starts. `place` is the index of its piece among the pieces of the roads, `end` is the OSM id of the junction where it ends, and
 /// `end_tile` the number of the tile where that stands, on the level of the tile that has the edge. `cm` is its
 /// length in centimetres, and `local` its index among the directed pieces that start at its junction.
 /// `forward_access` has a bit for each mode that may use it as it runs, `reverse_access` for each that may use it
@@ -20,6 +20,7 @@ const WIDTH: usize = 5;
 #[derive(Clone, Copy, Debug, PartialEq, Eq)]
 pub struct WorkEdge {
     pub key: DirKey,
+    pub place: u32,
     pub end: i64,
     pub end_tile: u32,
     pub cm: u32,
@@ -69,13 +70,14 @@ fn words_of(edge: &WorkEdge) -> [u64; WIDTH]
         edge.end.cast_unsigned(),
         end_word(edge),
         access_word(edge),
+        u64::from(edge.place),
     ]
 }
 
-/// The edge of five words.
+/// The edge of six words.
 #[tactic(auto, unfolding(crate::specs::EdgeWords::work_edge_of))]
 fn edge_in(words: &[u64]) -> WorkEdge
-    requires { length words.now ≡ 5 }
+    requires { length words.now ≡ 6 }
     ensures { result ≡ work_edge_of words.now }
 {
     WorkEdge {
@@ -87,6 +89,7 @@ fn edge_in(words: &[u64]) -> WorkEdge
             },
             forward: get(words[4], 56, 1) == 1,
         },
+        place: get(words[5], 0, 32) as u32,
         end: words[2].cast_signed(),
         end_tile: get(words[3], 0, 32) as u32,
         cm: get(words[3], 32, 32) as u32,
@@ -99,7 +102,7 @@ fn edge_in(words: &[u64]) -> WorkEdge
     }
 }
 
-/// Edges, each in five words. Contracts see them as their list.
+/// Edges, each in six words. Contracts see them as their list.
 #[derive(Debug, Drop)]
 pub(crate) struct EdgeRows {
     words: Vec<u64>,
@@ -115,9 +118,9 @@ impl Model for EdgeRows {
     ghost use Rattle.work_tile.specs.PackedRows.{packed_rows};
     ghost use Rattle.work_tile.specs.EdgeWords.{work_edge_of};
 
-    ghost view = { λ a. packed_rows work_edge_of 5 a.count a.words.items };
+    ghost view = { λ a. packed_rows work_edge_of 6 a.count a.words.items };
 
-    ghost invariant = { λ a. length a.words.items ≡ 5 * a.count };
+    ghost invariant = { λ a. length a.words.items ≡ 6 * a.count };
 }
 
 impl EdgeRows {

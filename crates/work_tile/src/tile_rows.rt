@@ -10,7 +10,7 @@ use std::alloc::{AllocError, Global};
 use std::marker::Model;
 
 /// The rows of one tile: its level, its number on that level, and its nodes with their edges. Contracts see them
-/// so. A node takes 24 bytes and an edge 40.
+/// so. A node takes 24 bytes and an edge 48.
 #[derive(Debug, Drop)]
 pub struct TileRows {
     level: u32,

@@ -4,4 +4,4 @@ use Rattle.work_tile.proofs.Packed.{many_rows}
 use Rattle.work_tile.proofs.edge_rows.EdgeRows.len.Goals as goal
 
 pub returns : goal.returns
-returns c = sym (many_rows work_edge_of 5 c.self.inside.count c.self.inside.words.items) ∙ ap length c.self.view_is
+returns c = sym (many_rows work_edge_of 6 c.self.inside.count c.self.inside.words.items) ∙ ap length c.self.view_is
