@@ -1,19 +1,20 @@
 -- The commands of the program: a line for each in every table below, and a file for each beside this one.
 pub mod BlobsCommand
 pub mod BuildCommand
-use Rattle.std.specs.Prelude.{◌≡◌, ℕ, ⊤, true, List, [], ◌∷◌, Option, Some, None, IsSome, Result, Ok, Err, option_and_then}
+use Rattle.std.specs.Prelude.{◌≡◌, ℕ, ⊤, true, List, [], All, Option, Some, None, IsSome, Result, Ok, Err, option_and_then}
 use Rattle.host_port.specs.Told.{Told, named}
 use Rattle.command_words.specs.declared.command.Request.{Request}
 use Rattle.command_words.specs.declared.command.Request.TheVariants as request
 use Rattle.command_words.specs.Asks.{asked_by}
 use Rattle.osm_blocks.specs.Faults.{is_of_bytes}
+use Rattle.tile_bytes.specs.Header.{are_modes}
 use Rattle.mjolnir_cli.specs.declared.answer.Answer.{Answer}
 use Rattle.mjolnir_cli.specs.declared.failure.Failure.{Failure}
-use Rattle.mjolnir_cli.specs.declared.failure.Failure.TheVariants.{Extract, NotBuilt, Pieces, EdgeTooLong}
+use Rattle.mjolnir_cli.specs.declared.failure.Failure.TheVariants.{Extract, NotBuilt, Limit}
 use Rattle.mjolnir_cli.specs.declared.words.Command.{Command}
 use Rattle.mjolnir_cli.specs.declared.words.Command.TheVariants.{Blobs, Build}
 use Rattle.mjolnir_cli.specs.Commands.BlobsCommand.{IsListed, StopsAt}
-use Rattle.mjolnir_cli.specs.Commands.BuildCommand.{IsBuilt, IsBuildRefused, ListsRoads, TellsPieces, list_path}
+use Rattle.mjolnir_cli.specs.Commands.BuildCommand.{IsBuilt, IsBuildRefused, RoutesRoads, path_in}
 
 -- ---- what the words ask for
 
@@ -34,30 +35,39 @@ abbrev pub input_of : Command → List ℕ
 input_of (Blobs path) = path
 input_of (Build options) = options.input
 
--- the paths of the files that are put for a command that is done, in this order
-abbrev pub paths_of : Command → List (List ℕ)
-paths_of (Blobs path) = []
-paths_of (Build options) = list_path options.output ∷ []
+-- a path lies in a folder
+abbrev pub IsIn : List ℕ → List ℕ → Type 0
+IsIn folder path = (rest : List ℕ) × (path ≡ path_in folder rest)
+
+-- where the files of a command lie: `blobs` has none, those of `build` lie in its folder
+abbrev pub ArePathsOf : Command → List (List ℕ) → Type 0
+ArePathsOf (Blobs path) paths = paths ≡ []
+ArePathsOf (Build options) paths = All (IsIn options.output) paths
+
+-- the command never puts a file
+abbrev pub PutsNothing : Command → Type 0
+PutsNothing (Blobs path) = ⊤
+PutsNothing (Build options) = ⊥
+
+-- what holds of the values of each command that words ask for
+abbrev pub HasGoodValues : Command → Type 0
+HasGoodValues (Blobs path) = ⊤
+HasGoodValues (Build options) = are_modes options.modes ≡ true
 
 -- An input of these bytes is answered by this answer.
 abbrev pub IsAnswer : Command → List ℕ → Answer → Type 0
 IsAnswer (Blobs path) bytes answer = IsListed bytes answer
-IsAnswer (Build options) bytes answer = IsBuilt options.output bytes answer
+IsAnswer (Build options) bytes answer = IsBuilt options.output options.modes bytes answer
 
 -- An input of these bytes is refused with this failure.
 abbrev pub IsRefused : Command → List ℕ → Failure → Type 0
 IsRefused (Blobs path) bytes failure = StopsAt bytes failure
-IsRefused (Build options) bytes failure = IsBuildRefused bytes failure
+IsRefused (Build options) bytes failure = IsBuildRefused options.modes bytes failure
 
--- The command's own theorem, of the files that a host tells when it is done. That of `blobs` is its answer.
-abbrev pub Headline : Command → List ℕ → Told → Type 0
-Headline (Blobs path) bytes told = ⊤
-Headline (Build options) bytes told = ListsRoads (list_path options.output) bytes told
-
--- The answer carries what the command's theorem stands on.
-abbrev pub CarriesHeadline : Command → List ℕ → Answer → Type 0
-CarriesHeadline (Blobs path) bytes answer = ⊤
-CarriesHeadline (Build options) bytes answer = TellsPieces options.output bytes answer
+-- The command's own theorem, of what a host tells before it and when it is done. That of `blobs` is its answer.
+abbrev pub Headline : Command → List ℕ → Told → Told → Type 0
+Headline (Blobs path) bytes before after = ⊤
+Headline (Build options) bytes before after = RoutesRoads options.output options.modes bytes before after
 
 -- ---- over all commands
 
@@ -81,6 +91,5 @@ HasItsInput (Some command) told = IsSome (named (input_of command) told)
 abbrev pub NamesInput : Failure → Type 0
 NamesInput (Extract fault) = is_of_bytes fault ≡ true
 NamesInput (NotBuilt kind id) = ⊤
-NamesInput (Pieces count) = ⊤
-NamesInput (EdgeTooLong way run piece cm) = ⊤
+NamesInput (Limit limit) = ⊤
 NamesInput other = ⊥

@@ -8,7 +8,7 @@ use Rattle.mjolnir_cli.specs.declared.answer.Answer.{Answer}
 use Rattle.mjolnir_cli.specs.declared.failure.Failure.{Failure}
 use Rattle.mjolnir_cli.specs.declared.failure.Failure.TheVariants.{Words, Read, Put, OutOfMemory}
 use Rattle.mjolnir_cli.specs.declared.words.Command.{Command}
-use Rattle.mjolnir_cli.specs.Commands.{input_of, paths_of, IsAnswer, IsRefused, Headline, Asks, HasItsInput}
+use Rattle.mjolnir_cli.specs.Commands.{input_of, ArePathsOf, PutsNothing, IsAnswer, IsRefused, Headline, Asks, HasItsInput}
 use Rattle.mjolnir_cli.specs.Failures.{Cause, OfBytes, OfLimits, cause_of, status_of, line_of}
 use Rattle.mjolnir_cli.specs.Puts.{PutsAll, BeginsWith, IsFront, Unput, paths}
 use Rattle.mjolnir_cli.specs.Said.{Adds, SaysLine}
@@ -27,7 +27,7 @@ pub record HasAnswer (asked : Option Command) (before : HostState) (answer : Ans
   pub command : Command
   pub command_is : asked ≡ Some command
   pub is : (bytes : List ℕ) → named (input_of command) before.told ≡ Some bytes → IsAnswer command bytes answer
-  pub paths_are : paths answer.files ≡ paths_of command
+  pub paths_are : ArePathsOf command (paths answer.files)
 
 -- ---- each status
 
@@ -120,7 +120,7 @@ pub record HasCauses (status : ℕ) (asked : Option Command) (before after : Hos
   pub reading : status ≢ 3 → status ≢ 7 → after.read_faults ≡ before.read_faults
   -- a fault of putting is counted only with 4, and where the command has files
   pub putting : status ≢ 4 → status ≢ 7 → after.put_faults ≡ before.put_faults
-  pub fileless : (command : Command) → asked ≡ Some command → paths_of command ≡ [] → Unput before.told after.told × (after.put_faults ≡ before.put_faults)
+  pub fileless : (command : Command) → asked ≡ Some command → PutsNothing command → Unput before.told after.told × (after.put_faults ≡ before.put_faults)
   -- the input is refused, and was read: 5 or 6
   pub refusing : (command : Command) (bytes : List ℕ) (failure : Failure) → Asks asked before.told command bytes → IsRefused command bytes failure
       → (Rose before.read_faults after.read_faults → ⊥) → (status ≡ status_of failure) ⊎ (status ≡ 7)
@@ -136,7 +136,7 @@ IsComplete status asked before after =
 -- The command's own theorem holds of what was put, where it is done.
 abbrev pub KeepsHeadline : ℕ → Option Command → HostState → HostState → Type 0
 KeepsHeadline status asked before after =
-    status ≡ 0 → (command : Command) (bytes : List ℕ) → Asks asked before.told command bytes → Headline command bytes after.told
+    status ≡ 0 → (command : Command) (bytes : List ℕ) → Asks asked before.told command bytes → Headline command bytes before.told after.told
 
 -- A willing host that has the file which the command opens counts no fault.
 abbrev pub IsHeardBy : Option Command → HostState → HostState → Type 0

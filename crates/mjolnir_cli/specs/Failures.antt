@@ -8,11 +8,11 @@ use Rattle.osm_blocks.specs.declared.fault.ExtractFault.{ExtractFault}
 use Rattle.osm_blocks.specs.declared.fault.ExtractFault.TheVariants as faults
 use Rattle.osm_blocks.specs.Faults.{framed_as}
 use Rattle.osm_blocks.specs.FaultLines.{kind_name, extract_fault_line}
-use Rattle.road_pieces.specs.declared.faults.CutFault.{CutFault}
-use Rattle.road_pieces.specs.declared.faults.CutFault.TheVariants as cut_faults
-use Rattle.road_pieces.specs.FaultLines.{cut_fault_line}
+use Rattle.build_flow.specs.declared.faults.FlowFault.{FlowFault}
+use Rattle.build_flow.specs.declared.faults.FlowFault.TheVariants as flow_faults
+use Rattle.build_flow.specs.LimitLines.{limit_line}
 use Rattle.mjolnir_cli.specs.declared.failure.Failure.{Failure}
-use Rattle.mjolnir_cli.specs.declared.failure.Failure.TheVariants.{Words, Read, Put, Extract, NotBuilt, Pieces, EdgeTooLong, OutOfMemory}
+use Rattle.mjolnir_cli.specs.declared.failure.Failure.TheVariants.{Words, Read, Put, Extract, NotBuilt, Limit, OutOfMemory}
 
 -- what a failure is due to
 pub data Cause : Type 0 where
@@ -31,8 +31,7 @@ cause_of Read = OfReading
 cause_of Put = OfPutting
 cause_of (Extract fault) = OfBytes
 cause_of (NotBuilt kind id) = OfBytes
-cause_of (Pieces count) = OfLimits
-cause_of (EdgeTooLong way run piece cm) = OfLimits
+cause_of (Limit limit) = OfLimits
 cause_of OutOfMemory = OfMemory
 
 -- each cause has its status
@@ -55,8 +54,7 @@ text_of Read = codes "error 3 read"
 text_of Put = codes "error 4 put"
 text_of (Extract fault) = codes "error 5 " ++ extract_fault_line fault
 text_of (NotBuilt kind id) = codes "error 5 NotBuilt kind=" ++ (kind_name kind ++ (codes " id=" ++ signed_decimal id))
-text_of (Pieces count) = codes "error 6 " ++ cut_fault_line (cut_faults.TooManyPieces count)
-text_of (EdgeTooLong way run piece cm) = codes "error 6 " ++ cut_fault_line (cut_faults.EdgeTooLong way run piece cm)
+text_of (Limit limit) = codes "error 6 " ++ limit_line limit
 text_of OutOfMemory = codes "error 7 memory"
 
 -- a byte as it is said: `?` in place of a byte below 32
@@ -85,8 +83,7 @@ of_extract fault = Extract fault
 abbrev pub of_pbf : PbfFault → Failure
 of_pbf fault = of_extract (framed_as fault)
 
--- what a fault of the roads is to a command
-abbrev pub of_cut : CutFault → Failure
-of_cut (cut_faults.TooManyPieces count) = Pieces count
-of_cut (cut_faults.EdgeTooLong way run piece cm) = EdgeTooLong way run piece cm
-of_cut cut_faults.OutOfMemory = OutOfMemory
+-- what a fault of the build is to a command
+abbrev pub of_flow : FlowFault → Failure
+of_flow (flow_faults.Limit limit) = Limit limit
+of_flow flow_faults.OutOfMemory = OutOfMemory

@@ -1,54 +1,43 @@
--- The command `build --input PATH --output DIR`: the list of the plain roads of an extract.
-use Rattle.std.specs.Prelude.{◌≡◌, ◌⊎◌, ◌↔◌, ℕ, ℤ, true, List, [], ◌∷◌, ◌++◌, map, Some, None, codes}
-use Rattle.host_port.specs.Told.{Told, named}
+-- The command `build --input PATH --output DIR --modes LIST`: the tiles of an extract.
+use Rattle.std.specs.Prelude.{◌≡◌, ◌⊎◌, ℕ, ℤ, List, [], ◌∷◌, ◌++◌, map, Some, None}
+use Rattle.host_port.specs.Told.{Told}
 use Rattle.osm_model.specs.declared.extract.Extract.{Extract}
 use Rattle.osm_model.specs.declared.relations.MemberKind.{MemberKind}
 use Rattle.osm_blocks.specs.Extracts.{Reads, Refuses, lists_of}
-use Rattle.road_pieces.specs.declared.rows.Junction.{Junction}
-use Rattle.road_pieces.specs.declared.rows.Piece.{Piece}
-use Rattle.road_pieces.specs.declared.faults.CutFault.{CutFault}
-use Rattle.road_pieces.specs.declared.faults.CutFault.TheVariants as cut_faults
-use Rattle.road_pieces.specs.Runs.{is_junction}
-use Rattle.road_pieces.specs.Rows.{junction_rows, piece_rows, refusal}
-use Rattle.road_pieces.specs.Modes.{all_mode_bits, IsMode}
-use Rattle.road_pieces.specs.Walks.{RoadWalk}
-use Rattle.road_pieces.specs.ListWalks.{PlainWalk, listed}
+use Rattle.build_flow.specs.declared.faults.LimitFault.{LimitFault}
+use Rattle.build_flow.specs.Unbuilt.{unbuilt}
+use Rattle.build_flow.specs.FolderFiles.{folder_files, limit_passed}
+use Rattle.build_flow.specs.BuildLaws.{HasTileWalks}
 use Rattle.mjolnir_cli.specs.declared.answer.Answer.{Answer}
 use Rattle.mjolnir_cli.specs.declared.failure.Failure.{Failure}
-use Rattle.mjolnir_cli.specs.declared.failure.Failure.TheVariants.{Extract as ExtractFails, NotBuilt, Pieces, EdgeTooLong, OutOfMemory}
-use Rattle.mjolnir_cli.specs.Failures.{of_cut}
-use Rattle.mjolnir_cli.specs.PlainList.{plain_list}
-use Rattle.mjolnir_cli.specs.ListReading.{pieces_told}
-use Rattle.mjolnir_cli.specs.Unbuilt.{unbuilt}
+use Rattle.mjolnir_cli.specs.declared.failure.Failure.TheVariants.{Extract as ExtractFails, NotBuilt, Limit, OutOfMemory}
+use Rattle.mjolnir_cli.specs.Puts.{PutsAll}
 
 -- ---- its answer
 
--- the path of the list of plain roads in a folder
-abbrev pub list_path : List ℕ → List ℕ
-list_path output = output ++ codes "/plain.lst"
+-- a path in a folder, and a file of that path
+abbrev pub path_in : List ℕ → List ℕ → List ℕ
+path_in folder path = folder ++ 47 ∷ path
+
+abbrev pub file_in : List ℕ → List ℕ × List ℕ → List ℕ × List ℕ
+file_in folder file = (path_in folder file.0, file.1)
+
+-- the files of an extract for the asked modes, in the folder `output`
+abbrev pub output_files : List ℕ → ℕ → Extract → List (List ℕ × List ℕ)
+output_files output modes x = map (file_in output) (folder_files x modes)
 
 -- The bytes are the extract x.
 abbrev pub Spells : List ℕ → Extract → Type 0
 Spells bytes x = Reads bytes (lists_of x)
 
--- The bytes are an extract whose objects are all built and whose roads pass no limit, and which has these junctions
--- and pieces.
-pub record IsCut (bytes : List ℕ) (junctions : List Junction) (pieces : List Piece) : Type 0 where
+-- The bytes are an extract whose objects are all built and whose roads pass no limit; the files are those of its
+-- folder, and nothing is said.
+pub record IsBuilt (output : List ℕ) (modes : ℕ) (bytes : List ℕ) (answer : Answer) : Type 0 where
   pub extract : Extract
   pub spelled : Spells bytes extract
   pub built : unbuilt extract ≡ None
-  pub within : refusal (piece_rows extract) ≡ None
-  pub junctions_are : junctions ≡ junction_rows extract
-  pub pieces_are : pieces ≡ piece_rows extract
-
--- The bytes are an extract whose objects are all built and whose roads pass no limit; the one file is the list of its
--- junctions and pieces, and nothing is said.
-pub record IsBuilt (output bytes : List ℕ) (answer : Answer) : Type 0 where
-  pub extract : Extract
-  pub spelled : Spells bytes extract
-  pub built : unbuilt extract ≡ None
-  pub within : refusal (piece_rows extract) ≡ None
-  pub files : answer.files ≡ (list_path output, plain_list extract) ∷ []
+  pub within : limit_passed extract modes ≡ None
+  pub files : answer.files ≡ output_files output modes extract
   pub silent : answer.text ≡ []
 
 -- ---- its refusal
@@ -59,20 +48,19 @@ pub record HasUnbuilt (bytes : List ℕ) (kind : MemberKind) (id : ℤ) : Type 0
   pub spelled : Spells bytes extract
   pub first : unbuilt extract ≡ Some (kind, id)
 
--- The bytes are an extract whose objects are all built, and whose roads pass this limit.
-pub record PassesLimit (bytes : List ℕ) (limit : CutFault) : Type 0 where
+-- The bytes are an extract whose objects are all built, and this is the first limit that its roads pass.
+pub record PassesLimit (modes : ℕ) (bytes : List ℕ) (limit : LimitFault) : Type 0 where
   pub extract : Extract
   pub spelled : Spells bytes extract
   pub built : unbuilt extract ≡ None
-  pub passed : refusal (piece_rows extract) ≡ Some limit
+  pub passed : limit_passed extract modes ≡ Some limit
 
 -- The bytes are refused with a fault, or an object isn't built yet, or a limit is passed.
-abbrev pub IsBuildRefused : List ℕ → Failure → Type 0
-IsBuildRefused bytes (ExtractFails fault) = Refuses bytes fault
-IsBuildRefused bytes (NotBuilt kind id) = HasUnbuilt bytes kind id
-IsBuildRefused bytes (Pieces count) = PassesLimit bytes (cut_faults.TooManyPieces count)
-IsBuildRefused bytes (EdgeTooLong way run piece cm) = PassesLimit bytes (cut_faults.EdgeTooLong way run piece cm)
-IsBuildRefused bytes other = ⊥
+abbrev pub IsBuildRefused : ℕ → List ℕ → Failure → Type 0
+IsBuildRefused modes bytes (ExtractFails fault) = Refuses bytes fault
+IsBuildRefused modes bytes (NotBuilt kind id) = HasUnbuilt bytes kind id
+IsBuildRefused modes bytes (Limit limit) = PassesLimit modes bytes limit
+IsBuildRefused modes bytes other = ⊥
 
 -- what a failure of an extract is: want of memory, an object that isn't built yet, or the limit that its roads pass
 pub record IsUnbuilt (failure : Failure) (x : Extract) : Type 0 where
@@ -81,39 +69,22 @@ pub record IsUnbuilt (failure : Failure) (x : Extract) : Type 0 where
   pub first : unbuilt x ≡ Some (kind, id)
   pub is : failure ≡ NotBuilt kind id
 
-pub record IsPassed (failure : Failure) (x : Extract) : Type 0 where
+pub record IsPassed (modes : ℕ) (failure : Failure) (x : Extract) : Type 0 where
   pub built : unbuilt x ≡ None
-  pub limit : CutFault
-  pub passed : refusal (piece_rows x) ≡ Some limit
-  pub is : failure ≡ of_cut limit
+  pub limit : LimitFault
+  pub passed : limit_passed x modes ≡ Some limit
+  pub is : failure ≡ Limit limit
 
-abbrev pub IsOfExtract : Failure → Extract → Type 0
-IsOfExtract failure x = (failure ≡ OutOfMemory) ⊎ (IsUnbuilt failure x ⊎ IsPassed failure x)
+abbrev pub IsOfExtract : ℕ → Failure → Extract → Type 0
+IsOfExtract modes failure x = (failure ≡ OutOfMemory) ⊎ (IsUnbuilt failure x ⊎ IsPassed modes failure x)
 
 -- ---- its theorem
 
--- For each mode, each two junctions and each length: a walk over the segments of the roads exists exactly where
--- there is one over the pieces that a reader finds in the bytes of the file, by their starts, ends and lengths.
-abbrev pub HasItsWalks : Extract → List ℕ → Type 0
-HasItsWalks x file =
-    (mode : ℕ) → IsMode mode → (a b : ℤ) → is_junction x a ≡ true → is_junction x b ≡ true → (total : ℕ)
-    → RoadWalk x all_mode_bits mode a b total ↔ PlainWalk (pieces_told file) a b total
-
--- The bytes are an extract, the file of this path is the list of its junctions and pieces, and what its bytes tell
--- has exactly the walks of its roads.
-pub record ListsRoads (path bytes : List ℕ) (told : Told) : Type 0 where
+-- The bytes are an extract; the files that were put are those of its folder, and no other; and for each mode, each two
+-- nodes and each length, a walk over the segments of its roads exists exactly where one over the graph of the tiles does
+-- whose files these are.
+pub record RoutesRoads (output : List ℕ) (modes : ℕ) (bytes : List ℕ) (before after : Told) : Type 0 where
   pub extract : Extract
   pub spelled : Spells bytes extract
-  pub list : List ℕ
-  pub put : named path told ≡ Some list
-  pub is : list ≡ plain_list extract
-  pub walks : HasItsWalks extract list
-
--- The bytes are an extract whose objects are all built, the one file is the list of its junctions and pieces, and its
--- bytes tell these pieces.
-pub record TellsPieces (output bytes : List ℕ) (answer : Answer) : Type 0 where
-  pub extract : Extract
-  pub spelled : Spells bytes extract
-  pub built : unbuilt extract ≡ None
-  pub files : answer.files ≡ (list_path output, plain_list extract) ∷ []
-  pub told : pieces_told (plain_list extract) ≡ map listed (piece_rows extract)
+  pub puts : PutsAll (output_files output modes extract) before after
+  pub walks : HasTileWalks extract modes

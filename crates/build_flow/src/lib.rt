@@ -1,0 +1,15 @@
+//! The whole build: from an extract to the files of its folder.
+#![tactic(auto)]
+
+mod faults;
+mod files;
+mod flow;
+mod laws;
+mod limit_lines;
+mod unbuilt;
+
+pub use faults::{FlowFault, LimitFault};
+pub use flow::folder_of;
+pub use laws::{builds_by_objects, built_walks};
+pub use limit_lines::limit_lines;
+pub use unbuilt::first_unbuilt;
