@@ -36,9 +36,9 @@ AreKnown modes = bit_and modes 79 ≡ modes
 known_both : (m n : ℕ) → AreKnown m → AreKnown n → AreKnown (bit_or m n)
 known_both m n a b =
     same_from_bits (bit_and (bit_or m n) 79) (bit_or m n) (λ i.
-      let first : bit_at (bit_and m 79) i ≡ bit_at m i = ap (λ k. bit_at k i) a in
-      let second : bit_at (bit_and n 79) i ≡ bit_at n i = ap (λ k. bit_at k i) b in
-      omega (arith, bit_at_and (bit_or m n) 79 i, bit_at_or m n i, bit_at_and m 79 i, bit_at_and n 79 i, first, second))
+    let first : bit_at (bit_and m 79) i ≡ bit_at m i = ap (λ k. bit_at k i) a in
+    let second : bit_at (bit_and n 79) i ≡ bit_at n i = ap (λ k. bit_at k i) b in
+    omega (arith, bit_at_and (bit_or m n) 79 i, bit_at_or m n i, bit_at_and m 79 i, bit_at_and n 79 i, first, second))
 
 -- a mode is known, and not nothing
 mode_known : (name : List ℕ) (mode : ℕ) → mode_of name ≡ Some mode → AreKnown mode × 0 < mode
