@@ -8,15 +8,15 @@ use Rattle.host_port.specs.HostState.{HostState, OnlyOpens}
 use Rattle.build_flow.specs.BuildLaws.{BuiltWalks}
 use Rattle.mjolnir_cli.specs.declared.answer.Answer.{Answer}
 use Rattle.mjolnir_cli.specs.declared.failure.Failure.{Failure}
-use Rattle.mjolnir_cli.specs.declared.failure.Failure.TheVariants.{Words, Read, Put, OutOfMemory}
+use Rattle.mjolnir_cli.specs.declared.failure.Failure.TheVariants.{Words, Put, OutOfMemory}
 use Rattle.mjolnir_cli.specs.declared.words.Command.{Command}
 use Rattle.mjolnir_cli.specs.declared.words.Command.TheVariants.{Blobs, Build}
-use Rattle.mjolnir_cli.specs.Commands.{input_of, ArePathsOf, IsAnswer, IsRefused, Headline, Asks}
+use Rattle.mjolnir_cli.specs.Commands.{input_of, ArePathsOf, IsAnswer, IsRefused}
 use Rattle.mjolnir_cli.specs.Failures.{Cause, OfWords, OfReading, OfPutting, OfBytes, OfLimits, OfMemory, cause_of, status_for, status_of, line_of}
 use Rattle.mjolnir_cli.specs.Puts.{PutsAll, BeginsWith, IsFront, Unput, paths}
-use Rattle.mjolnir_cli.specs.Said.{Adds, SaysLine}
+use Rattle.mjolnir_cli.specs.Said.{Adds}
 use Rattle.mjolnir_cli.specs.Listing.{IfOfInput, IfOfReading, IsMet, ReadCount}
-use Rattle.mjolnir_cli.specs.Ends.{SaysItsLine, HasAnswer, IsDone, IsRefusedWords, IsUnread, IsUnput, IsRefusedFor, HasNoMemory, IsUnsaid, EndsBy, CountsNone, SameCounts, HasCauses, IsComplete, IsHeardBy, KeepsHeadline, IsEnd}
+use Rattle.mjolnir_cli.specs.Ends.{SaysItsLine, HasAnswer, IsRefusedWords, IsUnread, IsRefusedFor, HasNoMemory, EndsBy, CountsNone, SameCounts, HasCauses, IsComplete, KeepsHeadline, IsEnd}
 use Rattle.mjolnir_cli.proofs.Stored.{puts_after, puts_of_none}
 use Rattle.mjolnir_cli.proofs.Ends.{routes_roads, no_files}
 use Rattle.mjolnir_cli.proofs.OneAnswer.{EndsOneWay, answered, complete, refused_so, says_from, is_read}

@@ -2,7 +2,7 @@
 -- of the program cites this file: it shows that nothing was lost. Two of them say what is promised now: the paths that
 -- are put are those of the answer, each in the command's folder, in place of one path (`old_paths`); and `build` puts the
 -- files of the tiles, whose walks are those of the roads, in place of a list of the roads (`old_lists`).
-use Rattle.std.proofs.Common.{◌≡◌, ◌≢◌, ◌⊎◌, inl, inr, ℕ, List, [], ◌∷◌, ◌++◌, length, Option, Some, None, refl, sym, ap, subst, ◌∙◌, arith}
+use Rattle.std.proofs.Common.{◌≡◌, ◌≢◌, ◌⊎◌, inl, inr, ℕ, List, [], ◌++◌, length, Option, Some, None, refl, sym, ap, subst, ◌∙◌}
 use Rattle.std.specs.Prelude.{IsSome}
 use Rattle.std.specs.Option.{option_map}
 use Rattle.command_words.specs.declared.command.BuildOptions.{BuildOptions}

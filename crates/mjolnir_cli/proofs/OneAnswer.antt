@@ -1,5 +1,5 @@
 -- An input is answered or refused, and never both; and it is refused with one status.
-use Rattle.std.proofs.Common.{◌≡◌, ◌≢◌, ◌⊎◌, inl, inr, ℕ, List, ◌++◌, Option, Some, Result, Ok, Err, refl, sym, ap, subst, ◌∙◌, arith}
+use Rattle.std.proofs.Common.{◌≡◌, ◌⊎◌, inl, inr, ℕ, List, ◌++◌, Option, Some, Result, Ok, Err, refl, sym, ap, subst, ◌∙◌}
 use Rattle.std.specs.Option.{option_map}
 use Rattle.std.proofs.lemmas.Option.{same_Some}
 use Rattle.host_port.specs.Told.{Told, named}
@@ -10,7 +10,7 @@ use Rattle.mjolnir_cli.specs.declared.failure.Failure.TheVariants as failures
 use Rattle.mjolnir_cli.specs.declared.failure.Failure.TheVariants.{Words, Read, Put, NotBuilt, Limit, OutOfMemory}
 use Rattle.mjolnir_cli.specs.declared.words.Command.{Command}
 use Rattle.mjolnir_cli.specs.Commands.{input_of, IsAnswer, IsRefused, EndsSo, Asks}
-use Rattle.mjolnir_cli.specs.Failures.{Cause, OfWords, OfReading, OfPutting, OfBytes, OfLimits, OfMemory, cause_of, status_for, status_of, line_of}
+use Rattle.mjolnir_cli.specs.Failures.{Cause, OfWords, OfReading, OfPutting, OfBytes, OfLimits, OfMemory, cause_of, status_for, status_of}
 use Rattle.mjolnir_cli.specs.Listing.{IfOfInput, IsMet, ReadCount}
 use Rattle.mjolnir_cli.specs.Said.{SaysLine}
 

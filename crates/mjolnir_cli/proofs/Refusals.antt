@@ -1,5 +1,5 @@
 -- What a refusal names.
-use Rattle.std.proofs.Common.{◌≡◌, ℕ, List, true, sym, ap, ◌∙◌}
+use Rattle.std.proofs.Common.{◌≡◌, ℕ, List, true, ap, ◌∙◌}
 use Rattle.pbf_blobs.proofs.OfBytes.{frames_of_bytes}
 use Rattle.osm_blocks.specs.declared.fault.ExtractFault.{ExtractFault}
 use Rattle.osm_blocks.specs.Faults.{is_of_bytes}
