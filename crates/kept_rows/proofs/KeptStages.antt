@@ -16,7 +16,7 @@ use Rattle.access_filter.specs.Kept.{is_kept_edge, kept_node, kept_nodes, kept_r
 use Rattle.edge_builder.specs.ExtractRows.{node_tile, edge_of_extract, node_of_extract, rows_of_stage}
 use Rattle.kept_rows.proofs.ListFacts.{filter_values, map_alike}
 
--- a list of values has some where there are some elements
+-- there are values where there are elements
 some_values : {A B : Type 0} (f : A → B) (es : List A) → nat_lt 0 (length (map f es)) ≡ not_none es
 some_values f [] = refl
 some_values f (e ∷ es) = lt-ltb 0 (length (map f (e ∷ es))) (omega arith)
@@ -26,7 +26,7 @@ module _ (x : Extract) (asked : ℕ) where
   abbrev pub folder_keeps : DirectedPiece → Bool
   folder_keeps = keeps_piece x asked tile_numbers [] (node_tile x)
 
-  -- an edge and its piece have the same two accesses
+  -- the accesses of a way in both directions, whichever comes first
   in_either : (way : ℤ) (b : Bool) → bit_or (way_access x way b) (way_access x way (not b)) ≡ bit_or (way_access x way true) (way_access x way false)
   in_either way true = refl
   in_either way false = or_comm (way_access x way false) (way_access x way true)
