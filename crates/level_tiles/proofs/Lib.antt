@@ -3,3 +3,4 @@ pub mod PieceLists
 pub mod PieceTiles
 pub mod PiecePlaces
 pub mod EntryLaws
+pub mod EntryWhole
