@@ -8,6 +8,10 @@ pub mod RoadLemmas
 pub mod RowLemmas
 pub mod TileLemmas
 pub mod UsedTiles
+pub mod FoundRows
+pub mod NumberedSpans
+pub mod PieceLengths
+pub mod ForwardRows
 pub mod StageRows
 pub mod PieceStarts
 pub mod StageTiles
