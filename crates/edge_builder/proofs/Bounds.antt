@@ -1,16 +1,16 @@
 -- The numbers that are grouped are below their bounds.
-use Rattle.std.proofs.Common.{◌≡◌, ℕ, ◌+◌, ◌<◌, refl, ◌∙◌, ap, subst, List, [], ◌∷◌, map, length, get_or, inl, inr, arith}
+use Rattle.std.proofs.Common.{◌≡◌, ℕ, ◌<◌, refl, ◌∙◌, ap, subst, List, map, length, get_or, arith}
 use Rattle.std.specs.Prelude.{All}
-use Rattle.std.specs.List.{enumerate_from}
 use Rattle.std.proofs.lemmas.List.{get_or-map, length-map}
 use Rattle.fixed_geo.specs.Place.{IsPlace}
 use Rattle.tile_geometry.specs.Grid.{tile_count}
 use Rattle.tile_geometry.proofs.GridLaws.{grid_counted}
 use Rattle.road_pieces.specs.declared.rows.Junction.{Junction}
 use Rattle.road_pieces.specs.declared.rows.Piece.{Piece}
-use Rattle.road_pieces.proofs.Members.{IsIn, in_at, at_in, of_flat, of_map}
-use Rattle.edge_builder.specs.BaseRows.{DirectedRow, both_rows, directed_rows, row_start, junction_tile, junction_place, start_places, IsJoined}
+use Rattle.road_pieces.proofs.Members.{IsIn, in_at, of_map}
+use Rattle.edge_builder.specs.BaseRows.{directed_rows, row_start, junction_tile, junction_place, start_places, IsJoined}
 use Rattle.edge_builder.proofs.JunctionLemmas.{no_junction}
+use Rattle.edge_builder.proofs.RowJunctions.{start_inside}
 
 -- a tile of a junction is one of the level
 pub below_count : (js : List Junction) (tiles : List ℕ) (bound : ℕ) → All (λ j. IsPlace j.at) js → tiles ≡ map junction_tile js → bound ≡ tile_count 2 → All (λ c. c < bound) tiles
@@ -20,28 +20,7 @@ below_count js tiles bound placed are is k d h =
     let counted = grid_counted 2 (get_or js k no_junction).at (placed k no_junction low) in
     omega (arith, tile, counted, is)
 
--- a piece that is numbered is one of the pieces
-pub numbered_in : (n : ℕ) (ps : List Piece) (e : ℕ × Piece) → IsIn (enumerate_from n ps) e → IsIn ps e.1
-numbered_in n [] e h = absurd h
-numbered_in n (p ∷ ps) e (inl is) = inl (ap (λ f. f.1) is)
-numbered_in n (p ∷ ps) e (inr later) = inr (numbered_in (n + 1) ps e later)
-
-all_joined : (js : List Junction) (ps : List Piece) (p : Piece) → All (IsJoined js) ps → IsIn ps p → IsJoined js p
-all_joined js ps p joined h =
-    let (k, (low, is)) = at_in ps p h in
-    subst (IsJoined js) (is p) (joined k p low)
-
-inside_by : (js : List Junction) (e : ℕ × Piece) (r : DirectedRow) → IsJoined js e.1 → IsIn (both_rows e) r → junction_place js (row_start r) < length js
-inside_by js (place, p) r joined (inl is) = subst (λ r. junction_place js (row_start r) < length js) is joined.start
-inside_by js (place, p) r joined (inr (inl is)) = subst (λ r. junction_place js (row_start r) < length js) is joined.end
-inside_by js (place, p) r joined (inr (inr h)) = absurd h
-
 -- an edge starts at a junction
-pub start_inside : (js : List Junction) (ps : List Piece) (r : DirectedRow) → All (IsJoined js) ps → IsIn (directed_rows ps) r → junction_place js (row_start r) < length js
-start_inside js ps r joined h =
-    let (e, (there, its)) = of_flat both_rows (enumerate_from 0 ps) r h in
-    inside_by js e r (all_joined js ps e.1 joined (numbered_in 0 ps e there)) its
-
 pub below_length : (js : List Junction) (ps : List Piece) (starts : List ℕ) → All (IsJoined js) ps → starts ≡ start_places js ps → All (λ n. n < length js) starts
 below_length js ps starts joined are k d h =
     let there : IsIn (start_places js ps) (get_or starts k d) = subst (λ ns. IsIn ns (get_or starts k d)) are (in_at starts k d (get_or starts k d) h refl) in
