@@ -1,0 +1,4 @@
+pub mod RecordPlaces
+pub mod RecordTable
+pub mod EndsAlike
+pub mod EndsFound
