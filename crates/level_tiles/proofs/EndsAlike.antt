@@ -1,6 +1,6 @@
 -- Two pieces of one run that have one number are one piece: to tell a piece by its number is to tell it by its ends.
 use Rattle.std.proofs.Common.{◌≡◌, ℕ, zero, suc, ◌+◌, ◌<◌, refl, sym, ◌∙◌, ap, subst, List, [], ◌∷◌, length, get_or, ℤ, pos, Bool, true, false, cond, inl, inr, arith}
-use Rattle.std.specs.Prelude.{nat_eq, not, ◌&&◌, if◌then◌else◌}
+use Rattle.std.specs.Prelude.{nat_eq, not, ◌&&◌}
 use Rattle.std.specs.Ordering.{int_eq}
 use Rattle.std.specs.Cmp.{signed_Decides}
 use Rattle.std.proofs.lemmas.Bool.{and_parts, both_ways, cases_order, eqb-true, eq-eqb}
@@ -18,12 +18,12 @@ use Rattle.tile_numbers.specs.LookUps.{runs_back}
 use Rattle.level_tiles.proofs.RecordPlaces.{same_bools, place_own}
 
 -- a place where the test passes is a stop
-in_stops : (test : ℤ → Bool) (ns : List ℤ) (k i : ℕ) (d : ℤ) → i < length ns → test (get_or ns i d) ≡ true → IsIn (stops test k ns) (k + i)
-in_stops test [] k i d h passes = absurd (omega (arith, h))
-in_stops test (n ∷ ns) k zero d h passes =
+stop_there : (test : ℤ → Bool) (ns : List ℤ) (k i : ℕ) (d : ℤ) → i < length ns → test (get_or ns i d) ≡ true → IsIn (stops test k ns) (k + i)
+stop_there test [] k i d h passes = absurd (omega (arith, h))
+stop_there test (n ∷ ns) k zero d h passes =
     subst (λ b. IsIn (cond b (k ∷ stops test (k + 1) ns) (stops test (k + 1) ns)) (k + 0)) (sym passes) (inl (omega arith))
-in_stops test (n ∷ ns) k (suc i) d h passes =
-    by (test n) (subst (IsIn (stops test (k + 1) ns)) {x = k + 1 + i} {y = k + suc i} (omega arith) (in_stops test ns (k + 1) i d (omega (arith, h)) passes))
+stop_there test (n ∷ ns) k (suc i) d h passes =
+    by (test n) (subst (IsIn (stops test (k + 1) ns)) {x = k + 1 + i} {y = k + suc i} (omega arith) (stop_there test ns (k + 1) i d (omega (arith, h)) passes))
   where
     by : (b : Bool) → IsIn (stops test (k + 1) ns) (k + suc i) → IsIn (cond b (k ∷ stops test (k + 1) ns) (stops test (k + 1) ns)) (k + suc i)
     by true there = inr there
@@ -34,7 +34,7 @@ module _ (x : Extract) where
   begins_at : (p : DirectedPiece) → IsPiece x p → IsIn (stops (is_junction x) 0 (run x p.way p.run)) p.from
   begins_at p is =
       let inside : p.from < length (run x p.way p.run) = omega (arith, is.rises, is.inside) in
-      subst (IsIn (stops (is_junction x) 0 (run x p.way p.run))) {x = 0 + p.from} {y = p.from} (omega arith) (in_stops (is_junction x) (run x p.way p.run) 0 p.from (pos 0) inside is.begins)
+      subst (IsIn (stops (is_junction x) 0 (run x p.way p.run))) {x = 0 + p.from} {y = p.from} (omega arith) (stop_there (is_junction x) (run x p.way p.run) 0 p.from (pos 0) inside is.begins)
 
   -- a piece that begins where another one begins ends where it ends
   ends_at : (way : ℤ) (number from to other : ℕ) (forward back : Bool) → IsPiece x (record { way = way; run = number; from = from; to = to; forward = forward }) → IsPiece x (record { way = way; run = number; from = from; to = other; forward = back }) → to ≡ other

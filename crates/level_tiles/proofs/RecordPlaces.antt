@@ -1,11 +1,11 @@
 -- Lists: look-ups over a list, and over what each of its elements becomes.
 use Rattle.std.proofs.Common.{◌≡◌, ℕ, zero, suc, ◌+◌, ◌<◌, refl, sym, ◌∙◌, ap, subst, List, [], ◌∷◌, ◌++◌, length, get_or, map, Bool, true, false, cond, Some, None, find, inl, inr, arith}
-use Rattle.std.specs.Prelude.{◌⊎◌, ◌≢◌, ◌||◌, filter, unwrap_or, not, nat_lt, nat_eq, All}
+use Rattle.std.specs.Prelude.{◌⊎◌, ◌||◌, filter, unwrap_or, not, nat_lt, nat_eq, All}
 use Rattle.std.specs.List.{flat_map, list_any, position, position_or_len, zip}
 use Rattle.std.specs.Option.{option_map}
 use Rattle.std.proofs.lemmas.Bool.{both_ways, lt-ltb, eqb-true, eq-eqb}
 use Rattle.std.proofs.lemmas.List.{length-map}
-use Rattle.road_pieces.proofs.Members.{IsIn, at_in, in_left, in_right}
+use Rattle.road_pieces.proofs.Members.{IsIn, at_in}
 use Rattle.folder_spec.specs.Tables.{first_index}
 
 -- ---- tests
@@ -15,24 +15,10 @@ same_bools true b to back = sym (to refl)
 same_bools false true to back = back refl
 same_bools false false to back = refl
 
-pub some_number : (n : ℕ) → not (nat_eq n 0) ≡ true → n ≢ 0
-some_number n h e = both_ways (not (nat_eq n 0)) (ap not (eq-eqb n 0 e)) h
-
-pub number_some : (n : ℕ) → n ≢ 0 → not (nat_eq n 0) ≡ true
-number_some n h = by (nat_eq n 0) refl
-  where
-    by : (b : Bool) → nat_eq n 0 ≡ b → not b ≡ true
-    by true e = absurd (h (eqb-true n 0 e))
-    by false e = refl
-
-pub none_pass : {E : Type 0} (test : E → Bool) (es : List E) → ((e : E) → test e ≡ false) → filter test es ≡ []
+pub none_pass : {E : Type 0} (test : E → Bool) (es : List E) → ((e : E) → IsIn es e → test e ≡ false) → filter test es ≡ []
 none_pass test [] fails = refl
-none_pass test (e ∷ es) fails = ap (λ b. cond b (e ∷ filter test es) (filter test es)) (fails e) ∙ none_pass test es fails
-
-pub no_filtered : {E : Type 0} (test : E → Bool) (es : List E) → ((e : E) → IsIn es e → test e ≡ false) → filter test es ≡ []
-no_filtered test [] fails = refl
-no_filtered test (e ∷ es) fails =
-    ap (λ b. cond b (e ∷ filter test es) (filter test es)) (fails e (inl refl)) ∙ no_filtered test es (λ d h. fails d (inr h))
+none_pass test (e ∷ es) fails =
+    ap (λ b. cond b (e ∷ filter test es) (filter test es)) (fails e (inl refl)) ∙ none_pass test es (λ d h. fails d (inr h))
 
 pub none_has : {E : Type 0} (test : E → Bool) (es : List E) → ((e : E) → test e ≡ false) → list_any test es ≡ false
 none_has test [] fails = refl
@@ -44,8 +30,8 @@ none_has test (e ∷ es) fails = by (test e) (list_any test es) (fails e) (none_
 
 -- ---- what holds of each element
 
-pub of_all : {E : Type 0} (Is : E → Type 0) (es : List E) (e : E) → All Is es → IsIn es e → Is e
-of_all Is es e all h =
+pub each_of_all : {E : Type 0} (Is : E → Type 0) (es : List E) (e : E) → All Is es → IsIn es e → Is e
+each_of_all Is es e all h =
     let (k, (inside, is)) = at_in es e h in
     subst Is (is e) (all k e inside)
 
@@ -71,16 +57,16 @@ zip_maps f g (e ∷ es) = ap (λ l. (f e, g e) ∷ l) (zip_maps f g es)
 -- ---- places
 
 -- a field of the element at a place, or of what stands for none
-pub field_at : {E A C : Type 0} (f : E → A) (g : A → C) (h : E → C) (es : List E) (k : ℕ) (a : A) (e : E) → ((d : E) → g (f d) ≡ h d) → g a ≡ h e → g (get_or (map f es) k a) ≡ h (get_or es k e)
-field_at f g h [] k a e same none = none
-field_at f g h (d ∷ es) zero a e same none = same d
-field_at f g h (d ∷ es) (suc k) a e same none = field_at f g h es k a e same none
+pub field_of_place : {E A C : Type 0} (f : E → A) (g : A → C) (h : E → C) (es : List E) (k : ℕ) (a : A) (e : E) → ((d : E) → g (f d) ≡ h d) → g a ≡ h e → g (get_or (map f es) k a) ≡ h (get_or es k e)
+field_of_place f g h [] k a e same none = none
+field_of_place f g h (d ∷ es) zero a e same none = same d
+field_of_place f g h (d ∷ es) (suc k) a e same none = field_of_place f g h es k a e same none
 
 -- the first place at which a test passes, over a list and over what its elements become
-pub same_place : {E A : Type 0} (f : E → A) (p : A → Bool) (q : E → Bool) (es : List E) → ((e : E) → IsIn es e → p (f e) ≡ q e) → position_or_len p (map f es) ≡ first_index q es
-same_place f p q [] same = refl
-same_place f p q (e ∷ es) same =
-    by (p (f e)) (q e) (position_or_len p (map f es)) (first_index q es) (same e (inl refl)) (same_place f p q es (λ d h. same d (inr h)))
+pub place_alike : {E A : Type 0} (f : E → A) (p : A → Bool) (q : E → Bool) (es : List E) → ((e : E) → IsIn es e → p (f e) ≡ q e) → position_or_len p (map f es) ≡ first_index q es
+place_alike f p q [] same = refl
+place_alike f p q (e ∷ es) same =
+    by (p (f e)) (q e) (position_or_len p (map f es)) (first_index q es) (same e (inl refl)) (place_alike f p q es (λ d h. same d (inr h)))
   where
     by : (a b : Bool) (m n : ℕ) → a ≡ b → m ≡ n → cond (not a) (1 + m) 0 ≡ cond b 0 (suc n)
     by true true m n h is = refl
@@ -88,25 +74,25 @@ same_place f p q (e ∷ es) same =
     by false true m n h is = absurd (both_ways true (sym h) refl)
     by false false m n h is = omega (arith, is)
 
-pub same_index : {E A : Type 0} (f : E → A) (p : A → Bool) (q : E → Bool) (es : List E) → ((e : E) → IsIn es e → p (f e) ≡ q e) → first_index p (map f es) ≡ first_index q es
-same_index f p q [] same = refl
-same_index f p q (e ∷ es) same =
-    λ i. cond (same e (inl refl) i) 0 (suc (same_index f p q es (λ d h. same d (inr h)) i))
+pub index_alike : {E A : Type 0} (f : E → A) (p : A → Bool) (q : E → Bool) (es : List E) → ((e : E) → IsIn es e → p (f e) ≡ q e) → first_index p (map f es) ≡ first_index q es
+index_alike f p q [] same = refl
+index_alike f p q (e ∷ es) same =
+    λ i. cond (same e (inl refl) i) 0 (suc (index_alike f p q es (λ d h. same d (inr h)) i))
 
 -- where some element passes, the first that does is one of them
-pub first_has : {E : Type 0} (test : E → Bool) (Has : E → Type 0) (es : List E) (d e : E) → IsIn es e → test e ≡ true → ((f : E) → IsIn es f → test f ≡ true → Has f) → Has (get_or es (first_index test es) d)
-first_has test Has [] d e h passes each = absurd h
-first_has test Has (f ∷ es) d e h passes each =
-    by (test f) refl h (λ k. first_has test Has es d e k passes (λ g l. each g (inr l)))
+pub first_passing_has : {E : Type 0} (test : E → Bool) (Has : E → Type 0) (es : List E) (d e : E) → IsIn es e → test e ≡ true → ((f : E) → IsIn es f → test f ≡ true → Has f) → Has (get_or es (first_index test es) d)
+first_passing_has test Has [] d e h passes each = absurd h
+first_passing_has test Has (f ∷ es) d e h passes each =
+    by (test f) refl h (λ k. first_passing_has test Has es d e k passes (λ g l. each g (inr l)))
   where
     by : (b : Bool) → test f ≡ b → (f ≡ e) ⊎ IsIn es e → (IsIn es e → Has (get_or es (first_index test es) d)) → Has (get_or (f ∷ es) (cond b 0 (suc (first_index test es))) d)
     by true t h rest = each f (inl refl) t
     by false t (inl is) rest = absurd (both_ways (test f) t (ap test is ∙ passes))
     by false t (inr there) rest = rest there
 
-first_inside : {E : Type 0} (test : E → Bool) (es : List E) (e : E) → IsIn es e → test e ≡ true → first_index test es < length es
-first_inside test [] e h passes = absurd h
-first_inside test (f ∷ es) e h passes = by (test f) refl h (λ k. first_inside test es e k passes)
+index_inside : {E : Type 0} (test : E → Bool) (es : List E) (e : E) → IsIn es e → test e ≡ true → first_index test es < length es
+index_inside test [] e h passes = absurd h
+index_inside test (f ∷ es) e h passes = by (test f) refl h (λ k. index_inside test es e k passes)
   where
     by : (b : Bool) → test f ≡ b → (f ≡ e) ⊎ IsIn es e → (IsIn es e → first_index test es < length es) → cond b 0 (suc (first_index test es)) < suc (length es)
     by true t h rest = omega arith
@@ -116,8 +102,8 @@ first_inside test (f ∷ es) e h passes = by (test f) refl h (λ k. first_inside
 -- .. and its place is the one that is answered
 pub found_index : {E A : Type 0} (f : E → A) (p : A → Bool) (q : E → Bool) (es : List E) (e : E) → IsIn es e → q e ≡ true → ((d : E) → IsIn es d → p (f d) ≡ q d) → unwrap_or (position p (map f es)) 0 ≡ first_index q es
 found_index f p q es e h passes same =
-    let inside : first_index q es < length (map f es) = let k = first_inside q es e h passes in omega (arith, k, length-map es f) in
-    ap (λ k. unwrap_or (cond (nat_lt k (length (map f es))) (Some k) None) 0) (same_place f p q es same)
+    let inside : first_index q es < length (map f es) = let k = index_inside q es e h passes in omega (arith, k, length-map es f) in
+    ap (λ k. unwrap_or (cond (nat_lt k (length (map f es))) (Some k) None) 0) (place_alike f p q es same)
     ∙ ap (λ b. unwrap_or (cond b (Some (first_index q es)) None) 0) (lt-ltb (first_index q es) (length (map f es)) inside)
 
 pub found_value : {E A : Type 0} (f : E → A) (p : A → Bool) (q : E → Bool) (v : A → ℕ) (w : ℕ) (es : List E) (e : E) → IsIn es e → q e ≡ true → ((d : E) → IsIn es d → p (f d) ≡ q d) → ((d : E) → IsIn es d → q d ≡ true → v (f d) ≡ w) → unwrap_or (option_map v (find p (map f es))) 0 ≡ w

@@ -2,7 +2,6 @@
 -- it is told by the turn restrictions, so nothing is asked of them.
 use Rattle.std.proofs.Common.{◌≡◌, ℕ, refl, sym, ◌∙◌, ap, subst, List, [], ◌∷◌, ◌++◌, map, get_or, ℤ, inl, inr}
 use Rattle.std.specs.Prelude.{filter, nat_eq, nat_lt, int_lt, ◌&&◌}
-use Rattle.std.specs.List.{flat_map}
 use Rattle.std.specs.Ordering.{int_eq}
 use Rattle.std.specs.Cmp.{signed_Decides}
 use Rattle.std.proofs.lemmas.Bool.{and_parts, eqb-true, eq-eqb}
@@ -16,22 +15,20 @@ use Rattle.road_walks.proofs.PiecesAre.{pieces_are}
 use Rattle.road_walks.proofs.Sorted.{of_filter, in_rising, numbers_connected, nodes_connected}
 use Rattle.folder_spec.specs.Links.{Link, base_link}
 use Rattle.folder_spec.specs.Chains.{IsLevelEdge, piece_level}
-use Rattle.folder_spec.specs.Tables.{NodeRow, TileRows, RowTable, no_node, no_tile, first_index, is_tile, is_node, tile_rows_at, node_row_at, links_of}
+use Rattle.folder_spec.specs.Tables.{NodeRow, TileRows, no_node, no_tile, first_index, is_tile, is_node, tile_rows_at, node_row_at, links_of}
 use Rattle.folder_spec.specs.Rows.{keeps_piece, kept_at, level_edges_at, longest_chain, is_chain, links_at, row_at, nodes_in, tiles_on, rows_of, rows_on}
+use Rattle.folder_spec.proofs.RowsLaw.{some_number, number_some}
 use Rattle.edge_builder.specs.ExtractRows.{node_tile}
 use Rattle.kept_rows.specs.KeptRows.{open_table}
-use Rattle.level_tiles.proofs.RecordPlaces.{none_pass, first_has, some_number, number_some}
+use Rattle.level_tiles.proofs.RecordPlaces.{none_pass, first_passing_has}
 
 -- where no edges are shortcuts
 pub links_of_level_2 : (x : Extract) (asked : ℕ) (tile_of : ℕ → ℤ → ℕ) (n : ℤ) → links_at x asked tile_numbers [] tile_of 2 n ≡ map base_link (level_edges_at x asked tile_numbers [] tile_of 2 n)
 links_of_level_2 x asked tile_of n =
     ap (λ ls. ls ++ map base_link (level_edges_at x asked tile_numbers [] tile_of 2 n))
-    (none_pass (is_chain x asked tile_numbers [] tile_of 2) (map (longest_chain x asked tile_numbers [] tile_of 2) (level_edges_at x asked tile_numbers [] tile_of 2 n)) (λ l. refl))
+    (none_pass (is_chain x asked tile_numbers [] tile_of 2) (map (longest_chain x asked tile_numbers [] tile_of 2) (level_edges_at x asked tile_numbers [] tile_of 2 n)) (λ l h. refl))
 
 module _ (x : Extract) (asked : ℕ) where
-  abbrev pub table : RowTable
-  table = open_table x asked
-
   -- the kept edges of level 2; those that start at a junction
   abbrev kept : List DirectedPiece
   kept = kept_at x asked tile_numbers [] (node_tile x) 2
@@ -39,10 +36,10 @@ module _ (x : Extract) (asked : ℕ) where
   abbrev pub starting : ℤ → List DirectedPiece
   starting n = level_edges_at x asked tile_numbers [] (node_tile x) 2 n
 
-  abbrev pub row_of : ℕ → ℤ → NodeRow
-  row_of k n = row_at x asked tile_numbers [] (node_tile x) k n
+  abbrev row_on : ℕ → ℤ → NodeRow
+  row_on k n = row_at x asked tile_numbers [] (node_tile x) k n
 
-  abbrev pub tile_of_level : ℕ → ℕ → TileRows
+  abbrev tile_of_level : ℕ → ℕ → TileRows
   tile_of_level k c = rows_of x asked tile_numbers [] (node_tile x) k c
 
   of_kept : (p : DirectedPiece) → IsIn kept p → IsLevelEdge x asked 2 p
@@ -66,18 +63,18 @@ module _ (x : Extract) (asked : ℕ) where
       in_filter (λ q. int_eq (piece_start x q) n) kept p (in_kept p is) ((signed_Decides (piece_start x p) n).1 starts)
 
   -- each tile is the one of its level and number, each node that of its level and junction
-  pub rows_are : (rows : TileRows) → IsIn table.tiles rows → tile_of_level rows.level rows.tile ≡ rows
+  rows_are : (rows : TileRows) → IsIn (open_table x asked).tiles rows → tile_of_level rows.level rows.tile ≡ rows
   rows_are rows there =
       let (k, (low, inside)) = of_flat (rows_on x asked tile_numbers [] (node_tile x)) (0 ∷ (1 ∷ (2 ∷ []))) rows there in
       let (c, (on, same)) = of_map (tile_of_level k) (tiles_on x asked tile_numbers [] (node_tile x) k) rows inside in
       subst (λ r. tile_of_level r.level r.tile ≡ r) same refl
 
-  row_is : (rows : TileRows) (r : NodeRow) → IsIn table.tiles rows → IsIn rows.nodes r → row_of rows.level r.osm ≡ r
+  row_is : (rows : TileRows) (r : NodeRow) → IsIn (open_table x asked).tiles rows → IsIn rows.nodes r → row_on rows.level r.osm ≡ r
   row_is rows r there among =
       let nodes : List ℤ = nodes_in x asked tile_numbers [] (node_tile x) rows.level rows.tile in
-      let inside : IsIn (map (row_of rows.level) nodes) r = subst (λ s. IsIn s.nodes r) (sym (rows_are rows there)) among in
-      let (n, (on, same)) = of_map (row_of rows.level) nodes r inside in
-      subst (λ s. row_of rows.level s.osm ≡ s) same refl
+      let inside : IsIn (map (row_on rows.level) nodes) r = subst (λ s. IsIn s.nodes r) (sym (rows_are rows there)) among in
+      let (n, (on, same)) = of_map (row_on rows.level) nodes r inside in
+      subst (λ s. row_on rows.level s.osm ≡ s) same refl
 
   -- a link of a tile of level 2 is a kept edge of that level
   pub record IsBaseEdge (l : Link DirectedPiece) : Type 0 where
@@ -85,10 +82,10 @@ module _ (x : Extract) (asked : ℕ) where
     pub is : IsLevelEdge x asked 2 piece
     pub link : base_link piece ≡ l
 
-  pub base_of : (rows : TileRows) (l : Link DirectedPiece) → rows.level ≡ 2 → IsIn table.tiles rows → IsIn (links_of rows) l → IsBaseEdge l
+  pub base_of : (rows : TileRows) (l : Link DirectedPiece) → rows.level ≡ 2 → IsIn (open_table x asked).tiles rows → IsIn (links_of rows) l → IsBaseEdge l
   base_of rows l level there h =
       let (r, (among, inside)) = of_flat (λ (s : NodeRow). s.links) rows.nodes l h in
-      let whole : row_of 2 r.osm ≡ r = subst (λ k. row_of k r.osm ≡ r) level (row_is rows r there among) in
+      let whole : row_on 2 r.osm ≡ r = subst (λ k. row_on k r.osm ≡ r) level (row_is rows r there among) in
       let links : r.links ≡ map base_link (starting r.osm) = ap (λ s. s.links) (sym whole) ∙ links_of_level_2 x asked (node_tile x) r.osm in
       let (p, (on, same)) = of_map base_link (starting r.osm) l (subst (λ ls. IsIn ls l) links inside) in
       let (is, starts) = of_starting r.osm p on in
@@ -99,30 +96,30 @@ module _ (x : Extract) (asked : ℕ) where
     abbrev its_tile : ℕ
     its_tile = node_tile x 2 n
 
-    tile_there : IsIn table.tiles (tile_of_level 2 its_tile)
+    tile_there : IsIn (open_table x asked).tiles (tile_of_level 2 its_tile)
     tile_there =
         in_flat (rows_on x asked tile_numbers [] (node_tile x)) (0 ∷ (1 ∷ (2 ∷ []))) 2 (tile_of_level 2 its_tile) (inr (inr (inl refl)))
         (in_map (tile_of_level 2) (tiles_on x asked tile_numbers [] (node_tile x) 2) its_tile
         (in_rising nat_lt numbers_connected (map (λ q. node_tile x 2 (piece_start x q)) kept) its_tile
         (subst (λ m. IsIn (map (λ q. node_tile x 2 (piece_start x q)) kept) (node_tile x 2 m)) starts (in_map (λ q. node_tile x 2 (piece_start x q)) kept p (in_kept p is)))))
 
-    node_there : IsIn (tile_of_level 2 its_tile).nodes (row_of 2 n)
+    node_there : IsIn (tile_of_level 2 its_tile).nodes (row_on 2 n)
     node_there =
-        in_map (row_of 2) (nodes_in x asked tile_numbers [] (node_tile x) 2 its_tile) n
+        in_map (row_on 2) (nodes_in x asked tile_numbers [] (node_tile x) 2 its_tile) n
         (in_rising int_lt nodes_connected (filter (λ m. nat_eq (node_tile x 2 m) its_tile) (map (piece_start x) kept)) n
         (in_filter (λ m. nat_eq (node_tile x 2 m) its_tile) (map (piece_start x) kept) n (subst (IsIn (map (piece_start x) kept)) starts (in_map (piece_start x) kept p (in_kept p is))) (eq-eqb its_tile its_tile refl)))
 
-    tile_found : tile_rows_at table 2 its_tile ≡ tile_of_level 2 its_tile
+    tile_found : tile_rows_at (open_table x asked) 2 its_tile ≡ tile_of_level 2 its_tile
     tile_found =
-        first_has (is_tile 2 its_tile) (λ rows. rows ≡ tile_of_level 2 its_tile) table.tiles no_tile (tile_of_level 2 its_tile) tile_there (and_both _ _ refl (eq-eqb its_tile its_tile refl))
+        first_passing_has (is_tile 2 its_tile) (λ rows. rows ≡ tile_of_level 2 its_tile) (open_table x asked).tiles no_tile (tile_of_level 2 its_tile) tile_there (and_both _ _ refl (eq-eqb its_tile its_tile refl))
         (λ rows h passes.
         let (level, tile) = and_parts (nat_eq 2 rows.level) (nat_eq its_tile rows.tile) passes in
         sym (rows_are rows h) ∙ (λ i. tile_of_level (sym (eqb-true 2 rows.level level) i) (sym (eqb-true its_tile rows.tile tile) i)))
 
-    pub node_found : node_row_at table (node_tile x) n 2 ≡ row_of 2 n
+    pub node_found : node_row_at (open_table x asked) (node_tile x) n 2 ≡ row_on 2 n
     node_found =
         ap (λ rows. get_or rows.nodes (first_index (is_node n) rows.nodes) no_node) tile_found
-        ∙ first_has (is_node n) (λ r. r ≡ row_of 2 n) (tile_of_level 2 its_tile).nodes no_node (row_of 2 n) node_there ((signed_Decides n n).1 refl)
+        ∙ first_passing_has (is_node n) (λ r. r ≡ row_on 2 n) (tile_of_level 2 its_tile).nodes no_node (row_on 2 n) node_there ((signed_Decides n n).1 refl)
         (λ r h passes.
-        let (m, (on, same)) = of_map (row_of 2) (nodes_in x asked tile_numbers [] (node_tile x) 2 its_tile) r h in
-        sym same ∙ ap (row_of 2) (ap (λ s. s.osm) same ∙ sym ((signed_Decides n r.osm).0 passes)))
+        let (m, (on, same)) = of_map (row_on 2) (nodes_in x asked tile_numbers [] (node_tile x) 2 its_tile) r h in
+        sym same ∙ ap (row_on 2) (ap (λ s. s.osm) same ∙ sym ((signed_Decides n r.osm).0 passes)))
