@@ -22,7 +22,7 @@ use Rattle.edge_builder.specs.ExtractRows.{node_tile}
 use Rattle.kept_rows.specs.KeptRows.{open_table}
 use Rattle.level_tiles.proofs.RecordPlaces.{none_pass, first_passing_has}
 
--- where no edges are shortcuts
+-- on level 2 no link is a shortcut: the links of a node are its kept edges
 pub links_of_level_2 : (x : Extract) (asked : ℕ) (tile_of : ℕ → ℤ → ℕ) (n : ℤ) → links_at x asked tile_numbers [] tile_of 2 n ≡ map base_link (level_edges_at x asked tile_numbers [] tile_of 2 n)
 links_of_level_2 x asked tile_of n =
     ap (λ ls. ls ++ map base_link (level_edges_at x asked tile_numbers [] tile_of 2 n))
