@@ -4,3 +4,10 @@ pub mod PieceTiles
 pub mod PiecePlaces
 pub mod EntryLaws
 pub mod EntryWhole
+pub mod RecordPlaces
+pub mod RecordTable
+pub mod EndsAlike
+pub mod EndsFound
+pub mod RecordEdges
+pub mod RecordNodes
+pub mod EntryRecords
