@@ -83,17 +83,29 @@ limit_passed x asked =
     option_or (some_limit limit_of_cut (refusal (piece_rows x)))
     (option_or (some_limit limit_of_base (crowded (junction_rows x) (piece_rows x))) (tiles_limit (built_tiles x asked)))
 
--- why an extract isn't built: the first limit that its roads pass, or want of memory, which says nothing of it
-abbrev pub IsFlowFault : Extract → ℕ → FlowFault → Type 0
-IsFlowFault x asked (Limit limit) = limit_passed x asked ≡ Some limit
-IsFlowFault x asked OutOfMemory = Unit {0}
+-- a fault is this limit, or want of memory, which says nothing of the roads
+abbrev pub IsFault : Option LimitFault → FlowFault → Type 0
+IsFault passed (Limit limit) = passed ≡ Some limit
+IsFault passed OutOfMemory = Unit {0}
 
--- ---- the tiles that rows make
+-- ---- the tiles that roads make, stage by stage
 
+-- the base tiles of roads, and what is kept of them
+abbrev pub kept_of_roads : ℕ → List Junction → List Piece → List WorkRows
+kept_of_roads asked junctions pieces = kept_tiles asked (base_tiles_of junctions pieces)
+
+-- the tiles that they make
 abbrev pub finished_tiles : ℕ → List Piece → List WorkRows → List Tile
-finished_tiles modes pieces tiles = map (finished_tile modes pieces tiles) tiles
+finished_tiles asked pieces tiles = map (finished_tile asked pieces tiles) tiles
 
--- why tiles aren't written: the first section that is too long, or want of memory
-abbrev pub IsTilesFault : List Tile → FlowFault → Type 0
-IsTilesFault tiles (Limit limit) = first_given too_long_section tiles ≡ Some limit
-IsTilesFault tiles OutOfMemory = Unit {0}
+abbrev pub tiles_of_roads : ℕ → List Junction → List Piece → List Tile
+tiles_of_roads asked junctions pieces = finished_tiles asked pieces (kept_of_roads asked junctions pieces)
+
+-- the first limit that roads pass behind those of pieces
+abbrev pub limit_of_roads : ℕ → List Junction → List Piece → Option LimitFault
+limit_of_roads asked junctions pieces = option_or (some_limit limit_of_base (crowded junctions pieces)) (tiles_limit (tiles_of_roads asked junctions pieces))
+
+-- roads whose tiles can be finished, where they pass no limit
+pub record CanBeBuilt (asked : ℕ) (junctions : List Junction) (pieces : List Piece) : Type 0 where
+  pub roads : AreRoads junctions pieces
+  pub tiles : crowded junctions pieces ≡ None → All HasRoom (kept_of_roads asked junctions pieces) → AreFinishable (kept_of_roads asked junctions pieces) pieces

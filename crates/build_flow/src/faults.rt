@@ -1,7 +1,6 @@
 //! Why an extract isn't built.
 
 ghost use Rattle.std.specs.Prelude.{◌≡◌};
-ghost use Rattle.tile_numbers.specs.declared.room.What.TheVariants as kinds;
 ghost use Rattle.build_flow.specs.LimitLines.{what_name};
 
 use edge_builder::BaseFault;
@@ -153,10 +152,11 @@ impl fmt::Display for LimitFault {
                 tile,
                 what,
                 count,
-            } => {
-                let what = what_name(*what);
-                write!(f, "TileFull level={level} tile={tile} what={what} count={count}")
-            }
+            } => write!(
+                f,
+                "TileFull level={level} tile={tile} what={} count={count}",
+                what_name(*what)
+            ),
             LimitFault::Section { level, tile, count } => {
                 write!(f, "Section level={level} tile={tile} count={count}")
             }

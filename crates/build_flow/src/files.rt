@@ -9,10 +9,11 @@ ghost use Rattle.work_tile.specs.Places.{place_numbers};
 ghost use Rattle.tile_numbers.specs.LookUps.{no_rows};
 ghost use Rattle.tile_geometry.specs.Grid.{tile_count};
 ghost use Rattle.tile_finish.specs.FinishedTiles.{finished_tile, AreFinishable};
+ghost use Rattle.build_flow.specs.Faults.{flow_of_write};
 ghost use Rattle.build_flow.specs.FolderFiles.{tile_file, first_given, too_long_section, finished_tiles, IsFault};
 
 use crate::faults::{FlowFault, LimitFault};
-use graph_id::{GraphId, tile_path};
+use graph_id::{GraphId, parts_and_value, tile_path};
 use host_port::{Bytes, HostFiles, Text};
 use road_pieces::Pieces;
 use std::alloc::{AllocError, Global};
@@ -34,6 +35,7 @@ fn path_of(alloc: Global, rows: &TileRows) -> Result<Text, AllocError>
 
 /// Why a tile isn't written, as a fault of the build.
 fn fault_of(rows: &TileRows, fault: WriteFault) -> FlowFault
+    ensures { result ≡ flow_of_write rows.now fault }
 {
     match fault {
         WriteFault::Section { count } => FlowFault::Limit(LimitFault::Section {
@@ -42,6 +44,35 @@ fn fault_of(rows: &TileRows, fault: WriteFault) -> FlowFault
             count,
         }),
         WriteFault::OutOfMemory => FlowFault::OutOfMemory,
+    }
+}
+
+/// Puts the file of the tile with index `i` behind the others.
+fn add_file(
+    alloc: Global,
+    pieces: &Pieces,
+    tiles: &[WorkTile],
+    places: &Places,
+    i: usize,
+    modes: u16,
+    files: &mut HostFiles,
+) -> Result<(), FlowFault>
+    requires inside { i < length tiles.now }
+    requires finishable { AreFinishable tiles.now pieces.now }
+    requires places { places.now ≡ place_numbers tiles.now }
+    requires modes { are_modes modes ≡ true }
+    ensures file { OnOk result (files.new ≡ files.old ++ tile_file (finished_tile modes pieces.now tiles.now (slice_index_or tiles.now i no_rows)) ∷ []) }
+    ensures short { OnOk result (too_long_section (finished_tile modes pieces.now tiles.now (slice_index_or tiles.now i no_rows)) ≡ None) }
+    ensures fault { IfErr result (λ fault. IsFault (too_long_section (finished_tile modes pieces.now tiles.now (slice_index_or tiles.now i no_rows))) fault) }
+{
+    parts_and_value();
+    match finish_tile(alloc, pieces, tiles, places, i, modes) {
+        Ok(bytes) => {
+            let path = path_of(alloc, tiles[i].rows())?;
+            files.push((path, Bytes::from(bytes)))?;
+            Ok(())
+        }
+        Err(fault) => Err(fault_of(tiles[i].rows(), fault)),
     }
 }
 
@@ -61,10 +92,9 @@ pub(crate) fn files_of(
     let places = Places::of_tiles(alloc, tiles)?;
     let mut files = HostFiles::new(alloc);
     for i in 0..tiles.len() {
-        let rows = tiles[i].rows();
-        match finish_tile(alloc, pieces, tiles, &places, i, modes) {
-            Ok(bytes) => files.push((path_of(alloc, rows)?, Bytes::from(bytes)))?,
-            Err(fault) => return Err(fault_of(rows, fault)),
+        match add_file(alloc, pieces, tiles, &places, i, modes, &mut files) {
+            Ok(()) => {}
+            Err(fault) => return Err(fault),
         }
     }
     Ok(files)

@@ -33,9 +33,9 @@ use work_tile::WorkTile;
 pub fn folder_of(alloc: Global, extract: Extract, modes: u16) -> Result<HostFiles, FlowFault>
     requires built { unbuilt extract ≡ None }
     requires modes { are_modes modes ≡ true }
-    ensures files { IfOk result (λ files. files ≡ folder_files extract.entry modes) }
-    ensures accepted { OnOk result (limit_passed extract.entry modes ≡ None) }
-    ensures refused { IfErr result (λ fault. IsFault (limit_passed extract.entry modes) fault) }
+    ensures files { IfOk result (λ files. files ≡ folder_files extract modes) }
+    ensures accepted { OnOk result (limit_passed extract modes ≡ None) }
+    ensures refused { IfErr result (λ fault. IsFault (limit_passed extract modes) fault) }
 {
     extract_roads();
     kept_are_finishable();
@@ -48,9 +48,9 @@ pub fn folder_of(alloc: Global, extract: Extract, modes: u16) -> Result<HostFile
 
 /// The roads of an extract, which is let go.
 fn roads_of(alloc: Global, extract: Extract) -> Result<Roads, CutFault>
-    ensures roads { IfOk result (λ roads. RoadsOf extract.entry roads) }
-    ensures accepted { OnOk result (refusal (piece_rows extract.entry) ≡ None) }
-    ensures refused { IfErr result (λ fault. (fault ≡ CutFault.OutOfMemory) ⊎ (refusal (piece_rows extract.entry) ≡ Some fault)) }
+    ensures roads { IfOk result (λ roads. RoadsOf extract roads) }
+    ensures accepted { OnOk result (refusal (piece_rows extract) ≡ None) }
+    ensures refused { IfErr result (λ fault. (fault ≡ CutFault.OutOfMemory) ⊎ (refusal (piece_rows extract) ≡ Some fault)) }
 {
     cut(alloc, &extract)
 }

@@ -5,11 +5,11 @@ mod faults;
 mod files;
 mod flow;
 mod laws;
-mod limit_lines;
+mod fault_lines;
 mod unbuilt;
 
 pub use faults::{FlowFault, LimitFault};
 pub use flow::folder_of;
 pub use laws::{builds_by_objects, built_walks};
-pub use limit_lines::limit_lines;
+pub use fault_lines::limit_lines;
 pub use unbuilt::first_unbuilt;

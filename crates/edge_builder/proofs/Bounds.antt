@@ -1,5 +1,5 @@
 -- The numbers that are grouped are below their bounds.
-use Rattle.std.proofs.Common.{◌≡◌, ℕ, ◌<◌, refl, ◌∙◌, ap, subst, List, map, length, get_or, inl, inr, arith}
+use Rattle.std.proofs.Common.{◌≡◌, ℕ, ◌<◌, refl, ◌∙◌, ap, subst, List, map, length, get_or, arith}
 use Rattle.std.specs.Prelude.{All}
 use Rattle.std.proofs.lemmas.List.{get_or-map, length-map}
 use Rattle.fixed_geo.specs.Place.{IsPlace}
@@ -7,9 +7,10 @@ use Rattle.tile_geometry.specs.Grid.{tile_count}
 use Rattle.tile_geometry.proofs.GridLaws.{grid_counted}
 use Rattle.road_pieces.specs.declared.rows.Junction.{Junction}
 use Rattle.road_pieces.specs.declared.rows.Piece.{Piece}
-use Rattle.road_pieces.proofs.Members.{IsIn, in_at, at_in, of_flat, of_map}
-use Rattle.edge_builder.specs.BaseRows.{DirectedRow, both_rows, directed_rows, row_start, junction_tile, junction_place, start_places, IsJoined}
+use Rattle.road_pieces.proofs.Members.{IsIn, in_at, of_map}
+use Rattle.edge_builder.specs.BaseRows.{directed_rows, row_start, junction_tile, junction_place, start_places, IsJoined}
 use Rattle.edge_builder.proofs.JunctionLemmas.{no_junction}
+use Rattle.edge_builder.proofs.RowJunctions.{start_inside}
 
 -- a tile of a junction is one of the level
 pub below_count : (js : List Junction) (tiles : List ℕ) (bound : ℕ) → All (λ j. IsPlace j.at) js → tiles ≡ map junction_tile js → bound ≡ tile_count 2 → All (λ c. c < bound) tiles
@@ -19,20 +20,9 @@ below_count js tiles bound placed are is k d h =
     let counted = grid_counted 2 (get_or js k no_junction).at (placed k no_junction low) in
     omega (arith, tile, counted, is)
 
-pub all_joined : (js : List Junction) (ps : List Piece) (p : Piece) → All (IsJoined js) ps → IsIn ps p → IsJoined js p
-all_joined js ps p joined h =
-    let (k, (low, is)) = at_in ps p h in
-    subst (IsJoined js) (is p) (joined k p low)
-
-pub start_inside : (js : List Junction) (p : Piece) (e : DirectedRow) → IsJoined js p → IsIn (both_rows p) e → junction_place js (row_start e) < length js
-start_inside js p e joined (inl is) = subst (λ r. junction_place js (row_start r) < length js) is joined.start
-start_inside js p e joined (inr (inl is)) = subst (λ r. junction_place js (row_start r) < length js) is joined.end
-start_inside js p e joined (inr (inr h)) = absurd h
-
 -- an edge starts at a junction
 pub below_length : (js : List Junction) (ps : List Piece) (starts : List ℕ) → All (IsJoined js) ps → starts ≡ start_places js ps → All (λ n. n < length js) starts
 below_length js ps starts joined are k d h =
     let there : IsIn (start_places js ps) (get_or starts k d) = subst (λ ns. IsIn ns (get_or starts k d)) are (in_at starts k d (get_or starts k d) h refl) in
-    let (e, (row, is)) = of_map (λ r. junction_place js (row_start r)) (directed_rows ps) (get_or starts k d) there in
-    let (p, (piece, its)) = of_flat both_rows ps e row in
-    subst (λ n. n < length js) is (start_inside js p e (all_joined js ps p joined piece) its)
+    let (r, (row, is)) = of_map (λ r. junction_place js (row_start r)) (directed_rows ps) (get_or starts k d) there in
+    subst (λ n. n < length js) is (start_inside js ps r joined row)

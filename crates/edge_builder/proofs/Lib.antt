@@ -5,9 +5,16 @@ pub mod GroupLemmas
 pub mod JunctionLemmas
 pub mod NodeLemmas
 pub mod RoadLemmas
+pub mod RowJunctions
 pub mod RowLemmas
 pub mod TileLemmas
 pub mod UsedTiles
+pub mod FoundRows
+pub mod NumberedSpans
+pub mod PieceLengths
+pub mod ForwardRows
+pub mod PiecePlaces
 pub mod StageRows
 pub mod PieceStarts
+pub mod StageEdges
 pub mod StageTiles

@@ -15,7 +15,7 @@ use Rattle.edge_builder.proofs.RowLemmas.{edges_there}
 
 -- any edge
 abbrev pub no_row : DirectedRow
-no_row = record { piece = record { key = record { way = Rattle.std.proofs.Common.pos 0; run = 0; piece = 0 }; start = Rattle.std.proofs.Common.pos 0; end = Rattle.std.proofs.Common.pos 0; shape = []; cm = 0; class = 0; forward = 0; backward = 0; names = [] }; forward = true }
+no_row = record { piece = record { key = record { way = Rattle.std.proofs.Common.pos 0; run = 0; piece = 0 }; start = Rattle.std.proofs.Common.pos 0; end = Rattle.std.proofs.Common.pos 0; shape = []; cm = 0; class = 0; forward = 0; backward = 0; names = [] }; place = 0; forward = true }
 
 numbered_more : {A : Type 0} (n : ℕ) (xs : List A) (x : A) → enumerate_from n (xs ++ x ∷ []) ≡ enumerate_from n xs ++ (n + length xs, x) ∷ []
 numbered_more n [] x = ap (λ k. (k, x) ∷ []) {x = n} {y = n + 0} (omega arith)

@@ -18,7 +18,7 @@ use Rattle.road_pieces.specs.Pieces.{IsPiece, piece_start}
 use Rattle.road_pieces.proofs.Nearest.{piece_ahead, piece_back}
 use Rattle.road_pieces.proofs.Members.{IsIn, at_in, of_flat}
 use Rattle.road_walks.proofs.Sorted.{of_any, of_filter}
-use Rattle.edge_builder.proofs.StageRows.{found_way}
+use Rattle.edge_builder.proofs.FoundRows.{found_way}
 
 -- ---- a junction stands in a run
 

@@ -1,5 +1,6 @@
 -- Directed edges by their places.
 use Rattle.std.proofs.Common.{◌≡◌, ℕ, suc, ◌+◌, ◌<◌, refl, sym, ◌∙◌, ap, List, [], ◌∷◌, ◌++◌, map, filter, length, get_or, take, flat_map, Bool, true, false, cond, nat_eq, arith, take-suc, append_assoc, add-one}
+use Rattle.std.specs.List.{enumerate_from}
 use Rattle.std.proofs.lemmas.Grind.{flat_map-append}
 use Rattle.std.proofs.lemmas.List.Concat.{flat_map-cons}
 use Rattle.road_pieces.specs.Rows.{stops}
@@ -18,11 +19,14 @@ two_starts js p = junction_place js p.start ∷ (junction_place js p.end ∷ [])
 abbrev pub starts_of : List Junction → List Piece → List ℕ
 starts_of js ps = flat_map (two_starts js) ps
 
+starts_from : (js : List Junction) (n : ℕ) (ps : List Piece) → starts_of js ps ≡ map (λ e. junction_place js (row_start e)) (flat_map both_rows (enumerate_from n ps))
+starts_from js n [] = refl
+starts_from js n (p ∷ ps) =
+    flat_map-cons (two_starts js) p ps ∙ (ap (λ ks. two_starts js p ++ ks) (starts_from js (n + 1) ps)
+    ∙ ap (map (λ e. junction_place js (row_start e))) (sym (flat_map-cons both_rows (n, p) (enumerate_from (n + 1) ps))))
+
 pub starts_are : (js : List Junction) (ps : List Piece) → starts_of js ps ≡ start_places js ps
-starts_are js [] = refl
-starts_are js (p ∷ ps) =
-    flat_map-cons (two_starts js) p ps ∙ (ap (λ ks. two_starts js p ++ ks) (starts_are js ps)
-    ∙ ap (map (λ e. junction_place js (row_start e))) (sym (flat_map-cons both_rows p ps)))
+starts_are js ps = starts_from js 0 ps
 
 pub starts_more : (js : List Junction) (ps : List Piece) (i : ℕ) (d : Piece) (ks : List ℕ) (a b : ℕ) → i < length ps → ks ≡ starts_of js (take i ps) → a ≡ junction_place js (get_or ps i d).start → b ≡ junction_place js (get_or ps i d).end → (ks ++ a ∷ []) ++ b ∷ [] ≡ starts_of js (take (i + 1) ps)
 starts_more js ps i d ks a b h was one two =

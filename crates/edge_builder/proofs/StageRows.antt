@@ -1,94 +1,116 @@
--- The directed edges of the pieces of an extract are its directed pieces, one by one.
-use Rattle.std.proofs.Common.{◌≡◌, ℕ, ◌+◌, ◌<◌, refl, sym, ◌∙◌, ap, subst, List, [], ◌∷◌, ◌++◌, map, filter, length, get_or, ℤ, pos, Bool, true, false, cond, Some, None, find, inl, inr, arith}
-use Rattle.std.specs.Prelude.{◌<ℤ◌, ◌⊎◌, slice_get}
+-- The directed edges of the pieces of an extract are its directed pieces, row by row.
+use Rattle.std.proofs.Common.{◌≡◌, ℕ, ◌+◌, refl, sym, ◌∙◌, ap, List, [], ◌∷◌, ◌++◌, map, filter, ℤ, Bool, true, false, cond, not, inl, inr}
 use Rattle.std.specs.List.{flat_map, enumerate_from}
-use Rattle.std.specs.Option.{option_map_or}
 use Rattle.std.specs.Ordering.{int_eq}
-use Rattle.std.specs.Cmp.{signed_Decides}
-use Rattle.std.proofs.lemmas.Bool.{both_ways}
 use Rattle.std.proofs.lemmas.Grind.{flat_map-append}
-use Rattle.std.proofs.lemmas.List.Folds.{find_at}
-use Rattle.std.proofs.lemmas.List.Sums.{position_or_len_is}
-use Rattle.std.proofs.lemmas.Option.{slice_get-get_or}
+use Rattle.std.proofs.lemmas.List.Elements.{filter-append}
 use Rattle.osm_model.specs.declared.ways.OsmWay.{OsmWay}
 use Rattle.osm_model.specs.declared.extract.Extract.{Extract}
 use Rattle.road_pieces.specs.DirectedPiece.{DirectedPiece}
-use Rattle.road_pieces.specs.Runs.{way_runs, run, is_junction}
+use Rattle.road_pieces.specs.Runs.{way_runs, is_junction}
+use Rattle.road_pieces.specs.Steps.{node}
 use Rattle.road_pieces.specs.Pieces.{piece_start, piece_end}
-use Rattle.road_pieces.specs.Rows.{stops, spans, piece_row, run_rows, way_rows, piece_rows}
-use Rattle.road_pieces.proofs.Members.{IsIn, at_in}
-use Rattle.road_walks.specs.BaseEdges.{run_pieces, way_pieces, directed_pieces}
-use Rattle.edge_builder.specs.BaseRows.{DirectedRow, both_rows, directed_rows, row_start, row_end}
-use Rattle.edge_builder.specs.BaseStages.{ArePairwise}
-use Rattle.edge_builder.proofs.JunctionLemmas.{below_differs}
+use Rattle.road_pieces.specs.Rows.{stops, spans, piece_rows}
+use Rattle.road_pieces.proofs.Members.{IsIn, of_numbered}
+use Rattle.road_walks.specs.BaseEdges.{run_pieces, way_pieces, directed_pieces, base_edges, reverse_of}
+use Rattle.edge_builder.specs.BaseRows.{DirectedRow, both_rows, directed_rows, row_start, row_end, base_rows}
+use Rattle.edge_builder.specs.ExtractRows.{forward_pieces, piece_of_extract, piece_place}
+use Rattle.edge_builder.proofs.RowJunctions.{numbered_in}
+use Rattle.edge_builder.proofs.ForwardRows.{told_forward}
+use Rattle.edge_builder.proofs.PiecePlaces.{runs_forward, place_forward, place_backward}
 
--- ---- lists
+-- ---- each piece that runs forward, and its reverse
 
-pub alike_append : {A B : Type 0} (Is : A → B → Type 0) (es cs : List A) (bs ds : List B) → ArePairwise Is es bs → ArePairwise Is cs ds → ArePairwise Is (es ++ cs) (bs ++ ds)
-alike_append Is [] cs [] ds h k = k
-alike_append Is [] cs (b ∷ bs) ds h k = absurd h
-alike_append Is (a ∷ es) cs [] ds h k = absurd h
-alike_append Is (a ∷ es) cs (b ∷ bs) ds h k = (h.0, alike_append Is es cs bs ds h.1 k)
+abbrev both_pieces : DirectedPiece → List DirectedPiece
+both_pieces p = p ∷ (reverse_of p ∷ [])
 
-pub alike_filter : {A B : Type 0} (Is : A → B → Type 0) (f : A → Bool) (g : B → Bool) → ((a : A) (b : B) → Is a b → f a ≡ g b) → (es : List A) (bs : List B) → ArePairwise Is es bs → ArePairwise Is (filter f es) (filter g bs)
-alike_filter Is f g same [] [] h = tt
-alike_filter Is f g same [] (b ∷ bs) h = absurd h
-alike_filter Is f g same (a ∷ es) [] h = absurd h
-alike_filter Is f g same (a ∷ es) (b ∷ bs) h = by (f a) (g b) (same a b h.0) (alike_filter Is f g same es bs h.1)
+abbrev ArePaired : List DirectedPiece → Type 0
+ArePaired ps = ps ≡ flat_map both_pieces (filter (λ p. p.forward) ps)
+
+paired_append : (ps qs : List DirectedPiece) → ArePaired ps → ArePaired qs → ArePaired (ps ++ qs)
+paired_append ps qs h k =
+    (λ i. h i ++ k i)
+    ∙ (sym (flat_map-append both_pieces (filter (λ p. p.forward) ps) (filter (λ p. p.forward) qs)) ∙ ap (flat_map both_pieces) (sym (filter-append (λ p. p.forward) ps qs)))
+
+paired_flat : {A : Type 0} (f : A → List DirectedPiece) → ((a : A) → ArePaired (f a)) → (es : List A) → ArePaired (flat_map f es)
+paired_flat f each [] = refl
+paired_flat f each (e ∷ es) = paired_append (f e) (flat_map f es) (each e) (paired_flat f each es)
+
+module _ (x : Extract) where
+  run_paired : (way : ℤ) (number : ℕ) (r : List ℤ) → ArePaired (run_pieces x way number r)
+  run_paired way number r =
+      paired_flat (λ (from, to). record { way = way; run = number; from = from; to = to; forward = true } ∷ (record { way = way; run = number; from = from; to = to; forward = false } ∷ [])) (λ (from, to). refl) (spans (stops (is_junction x) 0 r))
+
+  way_paired : (w : OsmWay) → ArePaired (way_pieces x w)
+  way_paired w =
+      paired_flat (λ (number, r). run_pieces x w.id number r) (λ (number, r). run_paired w.id number r) (enumerate_from 0 (way_runs x.nodes w))
+
+  all_paired : ArePaired (directed_pieces x)
+  all_paired = paired_flat (way_pieces x) way_paired x.ways
+
+-- ---- rows
+
+-- the piece as its run goes
+abbrev pub forward_of : DirectedPiece → DirectedPiece
+forward_of p = record { way = p.way; run = p.run; from = p.from; to = p.to; forward = true }
+
+abbrev pub row_of_extract : Extract → DirectedPiece → DirectedRow
+row_of_extract x p = record { piece = piece_of_extract x (forward_of p); place = piece_place x p; forward = p.forward }
+
+module _ (x : Extract) where
+  forward_told : (n : ℕ) (p : DirectedPiece) → p.forward ≡ true → piece_place x p ≡ n → record { piece = piece_of_extract x p; place = n; forward = true } ≡ row_of_extract x p
+  forward_told n p f place =
+      let back : true ≡ p.forward = sym f in
+      let same : p ≡ forward_of p = λ i. record { way = p.way; run = p.run; from = p.from; to = p.to; forward = f i } in
+      let at : n ≡ piece_place x p = sym place in
+      λ i. record { piece = piece_of_extract x (same i); place = at i; forward = back i }
+
+  backward_told : (n : ℕ) (p : DirectedPiece) → p.forward ≡ true → piece_place x (reverse_of p) ≡ n → record { piece = piece_of_extract x p; place = n; forward = false } ≡ row_of_extract x (reverse_of p)
+  backward_told n p f place =
+      let back : false ≡ not p.forward = ap not (sym f) in
+      let same : p ≡ forward_of p = λ i. record { way = p.way; run = p.run; from = p.from; to = p.to; forward = f i } in
+      let at : n ≡ piece_place x (reverse_of p) = sym place in
+      λ i. record { piece = piece_of_extract x (same i); place = at i; forward = back i }
+
+  rows_told : (n : ℕ) (ps : List DirectedPiece) → ((k : ℕ) (p : DirectedPiece) → IsIn (enumerate_from n ps) (k, p) → (p.forward ≡ true) × (piece_place x p ≡ k) × (piece_place x (reverse_of p) ≡ k)) → flat_map both_rows (enumerate_from n (map (piece_of_extract x) ps)) ≡ map (row_of_extract x) (flat_map both_pieces ps)
+  rows_told n [] told = refl
+  rows_told n (p ∷ ps) told =
+      let (f, there, back) = told n p (inl refl) in
+      λ i. forward_told n p f there i ∷ (backward_told n p f back i ∷ rows_told (n + 1) ps (λ k q h. told k q (inr h)) i)
+
+  told_so : (k : ℕ) (p : DirectedPiece) → IsIn (enumerate_from 0 (forward_pieces x)) (k, p) → (p.forward ≡ true) × (piece_place x p ≡ k) × (piece_place x (reverse_of p) ≡ k)
+  told_so k p h =
+      let f : p.forward ≡ true = runs_forward x p (numbered_in 0 (forward_pieces x) (k, p) h) in
+      (f, place_forward x k p h f, place_backward x k p h f)
+
+  -- the directed edges of all pieces are the directed pieces
+  pub directed_told : directed_rows (piece_rows x) ≡ map (row_of_extract x) (directed_pieces x)
+  directed_told =
+      ap directed_rows (told_forward x) ∙ (rows_told 0 (forward_pieces x) told_so ∙ ap (map (row_of_extract x)) (sym (all_paired x)))
+
+-- ---- where they start and end
+
+start_by : (x : Extract) (way : ℤ) (run from to : ℕ) (b : Bool) → cond b (node x way run from) (node x way run to) ≡ node x way run (cond b from to)
+start_by x way run from to true = refl
+start_by x way run from to false = refl
+
+pub row_starts : (x : Extract) (p : DirectedPiece) → row_start (row_of_extract x p) ≡ piece_start x p
+row_starts x p = start_by x p.way p.run p.from p.to p.forward
+
+pub row_ends : (x : Extract) (p : DirectedPiece) → row_end (row_of_extract x p) ≡ piece_end x p
+row_ends x p = start_by x p.way p.run p.to p.from p.forward
+
+filter_map : {A B : Type 0} (test : B → Bool) (f : A → B) (es : List A) → filter test (map f es) ≡ map f (filter (λ e. test (f e)) es)
+filter_map test f [] = refl
+filter_map test f (e ∷ es) = by (test (f e)) (filter_map test f es)
   where
-    by : (p q : Bool) → p ≡ q → ArePairwise Is (filter f es) (filter g bs) → ArePairwise Is (cond p (a ∷ filter f es) (filter f es)) (cond q (b ∷ filter g bs) (filter g bs))
-    by true true e rest = (h.0, rest)
-    by false false e rest = rest
-    by true false e rest = absurd (both_ways false refl (sym e))
-    by false true e rest = absurd (both_ways false refl e)
+    by : (b : Bool) → filter test (map f es) ≡ map f (filter (λ e. test (f e)) es) → cond b (f e ∷ filter test (map f es)) (filter test (map f es)) ≡ map f (cond b (e ∷ filter (λ e. test (f e)) es) (filter (λ e. test (f e)) es))
+    by true rest = λ i. f e ∷ rest i
+    by false rest = rest
 
--- ---- rows and directed pieces
-
-pub record IsDirected (x : Extract) (row : DirectedRow) (p : DirectedPiece) : Type 0 where
-  pub way : row.piece.key.way ≡ p.way
-  pub run : row.piece.key.run ≡ p.run
-  pub forward : row.forward ≡ p.forward
-  pub start : row_start row ≡ piece_start x p
-  pub end : row_end row ≡ piece_end x p
-
-pub found_way : (x : Extract) (w : OsmWay) → IsIn x.ways w → find (λ v. int_eq v.id w.id) x.ways ≡ Some w
-found_way x w h =
-    let (k, (inside, is)) = at_in x.ways w h in
-    let place = position_or_len_is (λ v. int_eq v.id w.id) x.ways k w (omega arith)
-    (λ j l. below_differs (get_or x.ways j w).id w.id (subst (λ v. (get_or x.ways j w).id <ℤ v.id) (is w) (x.ways_rise j k w l inside)))
-    (λ l. (signed_Decides (get_or x.ways k w).id w.id).1 (ap (λ v. v.id) (is w))) in
-    find_at (λ v. int_eq v.id w.id) x.ways ∙ (ap (slice_get x.ways) place ∙ (slice_get-get_or x.ways k w inside ∙ ap Some (is w)))
-
-module _ (x : Extract) (w : OsmWay) where
-  abbrev row_of : ℕ → List ℤ → ℕ × (ℕ × ℕ) → Rattle.road_pieces.specs.declared.rows.Piece.Piece
-  row_of number r (piece, (from, to)) = piece_row x w number r piece from to
-
-  abbrev two_of : ℕ → ℕ × ℕ → List DirectedPiece
-  two_of number (from, to) = record { way = w.id; run = number; from = from; to = to; forward = true } ∷ (record { way = w.id; run = number; from = from; to = to; forward = false } ∷ [])
-
-  span_alike : (number : ℕ) (r : List ℤ) → run x w.id number ≡ r → (n : ℕ) (ss : List (ℕ × ℕ)) → ArePairwise (IsDirected x) (flat_map both_rows (map (row_of number r) (enumerate_from n ss))) (flat_map (two_of number) ss)
-  span_alike number r its n [] = tt
-  span_alike number r its n ((from, to) ∷ ss) = (
-    record { way = refl; run = refl; forward = refl; start = ap (λ l. get_or l from (pos 0)) (sym its); end = ap (λ l. get_or l to (pos 0)) (sym its) },
-    (record { way = refl; run = refl; forward = refl; start = ap (λ l. get_or l to (pos 0)) (sym its); end = ap (λ l. get_or l from (pos 0)) (sym its) }, span_alike number r its (n + 1) ss),
-  )
-
-  runs_alike : (n : ℕ) (rs : List (List ℤ)) → ((i : ℕ) → i < length rs → run x w.id (n + i) ≡ get_or rs i []) → ArePairwise (IsDirected x) (flat_map both_rows (flat_map (λ (number, r). run_rows x w number r) (enumerate_from n rs))) (flat_map (λ (number, r). run_pieces x w.id number r) (enumerate_from n rs))
-  runs_alike n [] its = tt
-  runs_alike n (r ∷ rs) its =
-      let here = span_alike n r (ap (run x w.id) {x = n} {y = n + 0} (omega arith) ∙ its 0 (omega arith)) 0 (spans (stops (is_junction x) 0 r)) in
-      let rest = runs_alike (n + 1) rs (λ i h. ap (run x w.id) {x = n + 1 + i} {y = n + (i + 1)} (omega arith) ∙ (its (i + 1) (omega (arith, h)) ∙ ap (λ k. get_or (r ∷ rs) k []) {x = i + 1} {y = Rattle.std.proofs.Common.suc i} (omega arith))) in
-      subst (λ l. ArePairwise (IsDirected x) l (run_pieces x w.id n r ++ flat_map (λ (number, s). run_pieces x w.id number s) (enumerate_from (n + 1) rs)))
-      (sym (flat_map-append both_rows (run_rows x w n r) (flat_map (λ (number, s). run_rows x w number s) (enumerate_from (n + 1) rs))))
-      (alike_append (IsDirected x) (flat_map both_rows (run_rows x w n r)) (flat_map both_rows (flat_map (λ (number, s). run_rows x w number s) (enumerate_from (n + 1) rs))) (run_pieces x w.id n r) (flat_map (λ (number, s). run_pieces x w.id number s) (enumerate_from (n + 1) rs)) here rest)
-
-ways_alike : (x : Extract) (ws : List OsmWay) → ((w : OsmWay) → IsIn ws w → IsIn x.ways w) → ArePairwise (IsDirected x) (flat_map both_rows (flat_map (way_rows x) ws)) (flat_map (way_pieces x) ws)
-ways_alike x [] inside = tt
-ways_alike x (w ∷ ws) inside =
-    let runs_are : (i : ℕ) → i < length (way_runs x.nodes w) → run x w.id (0 + i) ≡ get_or (way_runs x.nodes w) i [] = λ i h. ap (run x w.id) {x = 0 + i} {y = i} (omega arith) ∙ ap (λ o. get_or (option_map_or (way_runs x.nodes) o []) i []) (found_way x w (inside w (inl refl))) in
-    subst (λ l. ArePairwise (IsDirected x) l (way_pieces x w ++ flat_map (way_pieces x) ws)) (sym (flat_map-append both_rows (way_rows x w) (flat_map (way_rows x) ws)))
-    (alike_append (IsDirected x) (flat_map both_rows (way_rows x w)) (flat_map both_rows (flat_map (way_rows x) ws)) (way_pieces x w) (flat_map (way_pieces x) ws) (runs_alike x w 0 (way_runs x.nodes w) runs_are) (ways_alike x ws (λ v h. inside v (inr h))))
-
--- the directed edges of all pieces are the directed pieces
-pub rows_alike : (x : Extract) → ArePairwise (IsDirected x) (directed_rows (piece_rows x)) (directed_pieces x)
-rows_alike x = ways_alike x x.ways (λ w h. h)
+-- the base edges of a junction are the directed pieces that start there
+pub base_told : (x : Extract) (n : ℤ) → base_rows (piece_rows x) n ≡ map (row_of_extract x) (base_edges x n)
+base_told x n =
+    ap (filter (λ e. int_eq (row_start e) n)) (directed_told x)
+    ∙ (filter_map (λ e. int_eq (row_start e) n) (row_of_extract x) (directed_pieces x)
+    ∙ (λ i. map (row_of_extract x) (filter (λ p. int_eq (row_starts x p i) n) (directed_pieces x))))

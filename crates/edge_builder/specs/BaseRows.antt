@@ -1,6 +1,6 @@
 -- The directed edges of roads, and where they start.
 use Rattle.std.specs.Prelude.{◌<◌, ◌≤◌, ◌<ℤ◌, ℕ, ℤ, Bool, true, false, List, [], ◌∷◌, length, map, flat_map, filter, find, nat_lt, All, AllPairs, Option, option_map, if◌then◌else◌}
-use Rattle.std.specs.List.{position_or_len}
+use Rattle.std.specs.List.{position_or_len, enumerate_from}
 use Rattle.std.specs.Ordering.{int_eq}
 use Rattle.fixed_geo.specs.Place.{IsPlace}
 use Rattle.tile_geometry.specs.Grid.{grid_tile}
@@ -9,17 +9,18 @@ use Rattle.road_pieces.specs.declared.rows.Piece.{Piece}
 use Rattle.edge_builder.specs.declared.faults.BaseFault.{BaseFault}
 use Rattle.edge_builder.specs.declared.faults.BaseFault.TheVariants.{TooManyEdges}
 
--- a piece in one of its directions
+-- a piece in one of its directions, with its index among the pieces
 pub record DirectedRow : Type 0 where
   pub piece : Piece
+  pub place : ℕ
   pub forward : Bool
 
 -- both directions of a piece, forward first; of all pieces, in order
-abbrev pub both_rows : Piece → List DirectedRow
-both_rows p = record { piece = p; forward = true } ∷ (record { piece = p; forward = false } ∷ [])
+abbrev pub both_rows : ℕ × Piece → List DirectedRow
+both_rows (place, p) = record { piece = p; place = place; forward = true } ∷ (record { piece = p; place = place; forward = false } ∷ [])
 
 abbrev pub directed_rows : List Piece → List DirectedRow
-directed_rows pieces = flat_map both_rows pieces
+directed_rows pieces = flat_map both_rows (enumerate_from 0 pieces)
 
 -- the node where an edge starts, and the one where it ends
 abbrev pub row_start : DirectedRow → ℤ

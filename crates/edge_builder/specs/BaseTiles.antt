@@ -13,6 +13,7 @@ use Rattle.edge_builder.specs.BaseRows.{DirectedRow, row_end, base_rows, junctio
 abbrev pub edge_row : ℕ → ℕ → DirectedRow → WorkEdge
 edge_row end_tile local e = record {
   key = record { key = e.piece.key; forward = e.forward };
+  place = e.place;
   end = row_end e;
   end_tile = end_tile;
   cm = e.piece.cm;

@@ -24,27 +24,29 @@ pub(crate) fn edge_at(plan: &Plan<'_>, place: usize, local: u8) -> WorkEdge
     requires inside { place < 2 * length plan.now.pieces.now }
     ensures { (d : DirectedRow) → result ≡ base_edge plan.now.junctions.now (local, slice_index_or (directed_rows plan.now.pieces.now) place d) }
 {
-    let piece = plan.pieces.at(place / 2);
+    let index = place / 2;
+    let piece = plan.pieces.at(index);
     if place % 2 == 0 {
         // Its reverse stands behind it, and starts where it ends.
         let end = plan.starts.at(place + 1);
-        forward_edge(&piece, plan.tiles.at(end as usize), local)
+        forward_edge(&piece, index as u32, plan.tiles.at(end as usize), local)
     } else {
         let end = plan.starts.at(place - 1);
-        backward_edge(&piece, plan.tiles.at(end as usize), local)
+        backward_edge(&piece, index as u32, plan.tiles.at(end as usize), local)
     }
 }
 
-/// A piece as it runs.
-fn forward_edge(piece: &PieceView<'_>, end_tile: u32, local: u8) -> WorkEdge
+/// A piece as it runs, with its index among the pieces.
+fn forward_edge(piece: &PieceView<'_>, place: u32, end_tile: u32, local: u8) -> WorkEdge
     requires { IsShort piece.now }
-    ensures { result ≡ edge_row end_tile local (record { piece = piece.now; forward = true }) }
+    ensures { result ≡ edge_row end_tile local (record { piece = piece.now; place = place; forward = true }) }
 {
     WorkEdge {
         key: DirKey {
             key: piece.key(),
             forward: true,
         },
+        place,
         end: piece.end(),
         end_tile,
         cm: piece.cm() as u32,
@@ -57,16 +59,17 @@ fn forward_edge(piece: &PieceView<'_>, end_tile: u32, local: u8) -> WorkEdge
     }
 }
 
-/// A piece against its run.
-fn backward_edge(piece: &PieceView<'_>, end_tile: u32, local: u8) -> WorkEdge
+/// A piece against its run, with its index among the pieces.
+fn backward_edge(piece: &PieceView<'_>, place: u32, end_tile: u32, local: u8) -> WorkEdge
     requires { IsShort piece.now }
-    ensures { result ≡ edge_row end_tile local (record { piece = piece.now; forward = false }) }
+    ensures { result ≡ edge_row end_tile local (record { piece = piece.now; place = place; forward = false }) }
 {
     WorkEdge {
         key: DirKey {
             key: piece.key(),
             forward: false,
         },
+        place,
         end: piece.start(),
         end_tile,
         cm: piece.cm() as u32,

@@ -12,4 +12,4 @@ mod tiles;
 
 pub use base::base_tiles;
 pub use faults::BaseFault;
-pub use laws::{base_stage, extract_roads};
+pub use laws::{base_stage, extract_roads, pieces_told_forward};

@@ -87,7 +87,7 @@ fn edges_of(alloc: Global, ways: Ways) -> Result<Option<Vec<Told>>, AllocError> 
     Ok(Some(rows))
 }
 
-/// The directed edge of a way's first piece, for all modes in both directions.
+/// The directed edge of a way's first piece, which is the first of all pieces, for all modes in both directions.
 fn edge(way: i64, forward: bool, end: i64, cm: u32, local: u8) -> WorkEdge {
     WorkEdge {
         key: DirKey {
@@ -98,6 +98,7 @@ fn edge(way: i64, forward: bool, end: i64, cm: u32, local: u8) -> WorkEdge {
             },
             forward,
         },
+        place: 0,
         end,
         end_tile: WEST,
         cm,
@@ -118,6 +119,11 @@ fn across(edge: WorkEdge, end_tile: u32, forward_access: u16, reverse_access: u1
         reverse_access,
         ..edge
     }
+}
+
+/// That edge, where its piece is the second of all pieces.
+fn second(edge: WorkEdge) -> WorkEdge {
+    WorkEdge { place: 1, ..edge }
 }
 
 // A way over two tiles, one way: pedestrians alone may go against it. 2,510,000 units are 2,794,132 cm.
@@ -164,9 +170,9 @@ fn two_ways(rt: HostRuntime) -> Result<(), Fail> {
     let rows = edges_of(alloc, ways)?.ok_or("no tiles")?;
     let told = [
         (WEST, 1, edge(7, true, 2, 11_132, 0)),
-        (WEST, 1, edge(8, true, 2, 33_396, 1)),
+        (WEST, 1, second(edge(8, true, 2, 33_396, 1))),
         (WEST, 2, edge(7, false, 1, 11_132, 0)),
-        (WEST, 2, edge(8, false, 1, 33_396, 1)),
+        (WEST, 2, second(edge(8, false, 1, 33_396, 1))),
     ];
     assert_eq!(rt; rows.as_slice(), told.as_slice());
     Ok(())

@@ -1,0 +1,5 @@
+pub mod ListFacts
+pub mod KeptStages
+pub mod LocalLevels
+pub mod LocalTables
+pub mod TableLaws

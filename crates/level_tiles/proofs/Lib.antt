@@ -1,0 +1,13 @@
+pub mod TextPlaces
+pub mod PieceLists
+pub mod PieceTiles
+pub mod PiecePlaces
+pub mod EntryLaws
+pub mod EntryWhole
+pub mod RecordPlaces
+pub mod RecordTable
+pub mod EndsAlike
+pub mod EndsFound
+pub mod RecordEdges
+pub mod RecordNodes
+pub mod EntryRecords

@@ -1,0 +1,7 @@
+mod PlaceLemmas
+mod FoundPlaces
+mod SizeLemmas
+mod LoopLemmas
+mod Passes
+mod PartLemmas
+mod WholeTile

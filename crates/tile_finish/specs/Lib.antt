@@ -1,1 +1,2 @@
 pub mod FinishedTiles
+pub mod Finishing

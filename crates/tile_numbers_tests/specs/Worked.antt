@@ -10,6 +10,7 @@ use Rattle.work_tile.specs.WorkRows.{WorkNode, WorkRows, work_node_with}
 abbrev pub worked_edge : ℤ → Bool → ℤ → ℕ → ℕ → WorkEdge
 worked_edge way forward end end_tile local = record {
   key = record { key = record { way = way; run = 0; piece = 0 }; forward = forward };
+  place = 0;
   end = end;
   end_tile = end_tile;
   cm = 11_132;

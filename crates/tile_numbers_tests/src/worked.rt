@@ -24,6 +24,7 @@ fn edge(way: u32, forward: bool, end: u32, end_tile: u32, local: u8) -> WorkEdge
             },
             forward,
         },
+        place: 0,
         end: i64::from(end),
         end_tile,
         cm: 11_132,

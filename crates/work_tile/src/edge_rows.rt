@@ -10,13 +10,13 @@ use std::marker::Model;
 /// The words of a row.
 const WIDTH: usize = 6;
 
-/// A directed piece, at the junction where it starts. `place` is the index of its piece among the pieces of the roads, `end` is the OSM id of the junction where it ends, and
-/// `end_tile` the number of the tile where that stands, on the level of the tile that has the edge. `cm` is its
-/// length in centimetres, and `local` its index among the directed pieces that start at its junction.
-/// `forward_access` has a bit for each mode that may use it as it runs, `reverse_access` for each that may use it
-/// the other way: auto 1, pedestrian 2, bicycle 4, truck 8, bus 64. `class` is from 0, motorway, to 7. `mask` has a
-/// bit for each directed piece, by its local index at the end, to which no vehicle may turn. `flagged` tells that a
-/// longer turn that is forbidden runs over its piece.
+/// A directed piece, at the junction where it starts. `place` is the index of its piece among the pieces of the
+/// roads, `end` the OSM id of the junction where it ends, and `end_tile` the number of the tile where that stands, on
+/// the level of the tile that has the edge. `cm` is its length in centimetres, and `local` its index among the directed
+/// pieces that start at its junction. `forward_access` has a bit for each mode that may use it as it runs,
+/// `reverse_access` for each that may use it the other way: auto 1, pedestrian 2, bicycle 4, truck 8, bus 64. `class`
+/// is from 0, motorway, to 7. `mask` has a bit for each directed piece, by its local index at the end, to which no
+/// vehicle may turn. `flagged` tells that a longer turn that is forbidden runs over its piece.
 #[derive(Clone, Copy, Debug, PartialEq, Eq)]
 pub struct WorkEdge {
     pub key: DirKey,

@@ -27,6 +27,7 @@ fn edge(way: i64, forward_access: u16, reverse_access: u16) -> WorkEdge {
             },
             forward: true,
         },
+        place: 0,
         end: 1,
         end_tile: 5,
         cm: 100,

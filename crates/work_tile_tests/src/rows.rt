@@ -15,6 +15,7 @@ const EXTREME: WorkEdge = WorkEdge {
         },
         forward: true,
     },
+    place: u32::MAX,
     end: -1,
     end_tile: u32::MAX,
     cm: u32::MAX,

@@ -28,13 +28,13 @@ at-requires-else-place-eq0 c =
 pub returns-then-place-eq0 : goal.returns-then-place-eq0
 returns-then-place-eq0 c d =
     let plan = c.args.plan.now in
-    c.forward_edge.ensures ∙ (ap (λ p. edge_row c.at.result c.args.local (record { piece = p; forward = true })) c.at-piece.ensures
+    c.forward_edge.ensures ∙ (ap (λ p. edge_row c.at.result c.args.local (record { piece = p; place = c.args.place / 2; forward = true })) c.at-piece.ensures
     ∙ forward_made plan.junctions.now plan.pieces.now plan.tiles.now plan.starts.now c.args.place c.at-end.result c.at.result c.args.local c.at-piece.result d c.requires.planned c.requires.inside c.if-place-eq0.true
     (forward_end plan.junctions.now plan.pieces.now plan.tiles.now plan.starts.now c.args.place c.at-end.result c.at-end.result c.at-piece.result c.requires.planned c.requires.inside c.if-place-eq0.true c.at-end.ensures) c.at.ensures)
 
 pub returns-else-place-eq0 : goal.returns-else-place-eq0
 returns-else-place-eq0 c d =
     let plan = c.args.plan.now in
-    c.backward_edge.ensures ∙ (ap (λ p. edge_row c.at-else-place-eq0.result c.args.local (record { piece = p; forward = false })) c.at-piece.ensures
+    c.backward_edge.ensures ∙ (ap (λ p. edge_row c.at-else-place-eq0.result c.args.local (record { piece = p; place = c.args.place / 2; forward = false })) c.at-piece.ensures
     ∙ backward_made plan.junctions.now plan.pieces.now plan.tiles.now plan.starts.now c.args.place c.at-end-else-place-eq0.result c.at-else-place-eq0.result c.args.local c.at-piece.result d c.requires.planned c.requires.inside c.if-place-eq0.false
     (backward_end plan.junctions.now plan.pieces.now plan.tiles.now plan.starts.now c.args.place c.at-end-else-place-eq0.result c.at-end-else-place-eq0.result c.at-piece.result c.requires.planned c.requires.inside c.if-place-eq0.false c.at-end-else-place-eq0.ensures) c.at-else-place-eq0.ensures)

@@ -1,0 +1,7 @@
+mod Given
+mod Full
+mod Roads
+mod Local
+mod TileWalks
+mod ByObjects
+mod Flow
