@@ -31,12 +31,7 @@ fn front_cells(way: u64, run: u32, piece: u32, count: usize) -> [u8; 20]
 fn push_front(out: &mut Vec<u8>, key: PieceKey, count: usize) -> Result<(), AllocError>
     ensures { OnOk result (out.new.items ≡ out.old.items ++ (key_bytes key ++ half_bytes count)) }
 {
-    out.extend_from_slice(&front_cells(
-        key.way.cast_unsigned(),
-        key.run,
-        key.piece,
-        count,
-    ))
+    out.extend_from_slice(&front_cells(key.way.cast_unsigned(), key.run, key.piece, count))
 }
 
 /// The bytes of two halves.
@@ -55,10 +50,7 @@ fn pair_cells(first: u32, second: u32) -> [u8; 8]
 fn push_point(out: &mut Vec<u8>, point: Point) -> Result<(), AllocError>
     ensures { OnOk result (out.new.items ≡ out.old.items ++ point_bytes point) }
 {
-    out.extend_from_slice(&pair_cells(
-        point.lat.cast_unsigned(),
-        point.lon.cast_unsigned(),
-    ))
+    out.extend_from_slice(&pair_cells(point.lat.cast_unsigned(), point.lon.cast_unsigned()))
 }
 
 /// Puts points behind the bytes.
