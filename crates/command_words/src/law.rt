@@ -1,6 +1,8 @@
 //! Lists of words that are written out, each with what it asks for, by hand from the rules of clap and of the values.
+//! And what holds of each list of words.
 
-ghost use Rattle.std.specs.Prelude.{◌≡◌, [], ◌∷◌, Some, None, codes};
+ghost use Rattle.std.specs.Prelude.{◌≡◌, ◌<◌, ℕ, List, [], ◌∷◌, Some, None, bit_and, codes};
+ghost use Rattle.command_words.specs.declared.command.BuildOptions.{BuildOptions};
 ghost use Rattle.command_words.specs.declared.command.Request.TheVariants as request;
 ghost use Rattle.command_words.specs.Asks.{asked_by};
 
@@ -90,4 +92,11 @@ pub fn nothing_asked()
     ensures build_help { asked_by (codes "build" ∷ codes "--help" ∷ []) ≡ None }
     ensures build_h { asked_by (codes "build" ∷ codes "-h" ∷ []) ≡ None }
     ensures blobs_help { asked_by (codes "blobs" ∷ codes "--help" ∷ []) ≡ None }
+{}
+
+/// The modes that words ask for are modes: there is one, and each is among auto (1), pedestrian (2), bicycle (4),
+/// truck (8) and bus (64). The call runs no code: its contract is what it is for.
+pub fn modes_are_known()
+    ensures some { (words : List (List ℕ)) (options : BuildOptions) → asked_by words ≡ Some (request.Build options) → 0 < options.modes }
+    ensures known { (words : List (List ℕ)) (options : BuildOptions) → asked_by words ≡ Some (request.Build options) → bit_and options.modes 79 ≡ options.modes }
 {}

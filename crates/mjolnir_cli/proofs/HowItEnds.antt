@@ -4,21 +4,21 @@ use Rattle.std.specs.Prelude.{IsSome}
 use Rattle.std.specs.Option.{option_map}
 use Rattle.host_port.specs.Told.{Told, named}
 use Rattle.host_port.specs.Faults.{Rose}
-use Rattle.road_pieces.specs.ListWalks.{ListsWalks}
 use Rattle.host_port.specs.HostState.{HostState, OnlyOpens}
+use Rattle.build_flow.specs.BuildLaws.{BuiltWalks}
 use Rattle.mjolnir_cli.specs.declared.answer.Answer.{Answer}
 use Rattle.mjolnir_cli.specs.declared.failure.Failure.{Failure}
-use Rattle.mjolnir_cli.specs.declared.failure.Failure.TheVariants.{Words, Read, Put, OutOfMemory}
+use Rattle.mjolnir_cli.specs.declared.failure.Failure.TheVariants.{Words, Put, OutOfMemory}
 use Rattle.mjolnir_cli.specs.declared.words.Command.{Command}
 use Rattle.mjolnir_cli.specs.declared.words.Command.TheVariants.{Blobs, Build}
-use Rattle.mjolnir_cli.specs.Commands.{input_of, paths_of, IsAnswer, IsRefused, Headline, CarriesHeadline, Asks}
+use Rattle.mjolnir_cli.specs.Commands.{input_of, ArePathsOf, IsAnswer, IsRefused}
 use Rattle.mjolnir_cli.specs.Failures.{Cause, OfWords, OfReading, OfPutting, OfBytes, OfLimits, OfMemory, cause_of, status_for, status_of, line_of}
 use Rattle.mjolnir_cli.specs.Puts.{PutsAll, BeginsWith, IsFront, Unput, paths}
-use Rattle.mjolnir_cli.specs.Said.{Adds, SaysLine}
+use Rattle.mjolnir_cli.specs.Said.{Adds}
 use Rattle.mjolnir_cli.specs.Listing.{IfOfInput, IfOfReading, IsMet, ReadCount}
-use Rattle.mjolnir_cli.specs.Ends.{SaysItsLine, HasAnswer, IsDone, IsRefusedWords, IsUnread, IsUnput, IsRefusedFor, HasNoMemory, IsUnsaid, EndsBy, CountsNone, SameCounts, HasCauses, IsComplete, IsHeardBy, KeepsHeadline, IsEnd}
+use Rattle.mjolnir_cli.specs.Ends.{SaysItsLine, HasAnswer, IsRefusedWords, IsUnread, IsRefusedFor, HasNoMemory, EndsBy, CountsNone, SameCounts, HasCauses, IsComplete, KeepsHeadline, IsEnd}
 use Rattle.mjolnir_cli.proofs.Stored.{puts_after, puts_of_none}
-use Rattle.mjolnir_cli.proofs.Ends.{lists, no_files}
+use Rattle.mjolnir_cli.proofs.Ends.{routes_roads, no_files}
 use Rattle.mjolnir_cli.proofs.OneAnswer.{EndsOneWay, answered, complete, refused_so, says_from, is_read}
 
 some_none : {A : Type 0} (a : A) → ◌≡◌ {A = Option A} (Some a) None → ⊥
@@ -49,8 +49,7 @@ pub record Delivers (answer : Answer) (status : ℕ) (before after : HostState) 
 -- a command that was run to its answer: it read, and did nothing else
 pub record RanTo (answer : Answer) (mine : Command) (before mid : HostState) : Type 0 where
   pub is_answer : (bytes : List ℕ) → named (input_of mine) before.told ≡ Some bytes → IsAnswer mine bytes answer
-  pub carries : (bytes : List ℕ) → named (input_of mine) before.told ≡ Some bytes → CarriesHeadline mine bytes answer
-  pub paths_are : paths answer.files ≡ paths_of mine
+  pub paths_are : ArePathsOf mine (paths answer.files)
   pub whole : (bytes : List ℕ) → named (input_of mine) before.told ≡ Some bytes → mid.told.place ≡ Some (length bytes)
   pub others : OnlyOpens before mid
   pub reads : mid.read_faults ≡ before.read_faults
@@ -138,10 +137,10 @@ complete_delivered asked mine answer status before mid after ran given none = by
     by (inr (inr (inl e))) = inr e
     by (inr (inr (inr e))) = absurd (none.says (rose_from before.say_faults mid.say_faults after.say_faults ran.others.say_faults (given.say e)))
 
-pub headline_delivered : (asked : Option Command) (mine : Command) (answer : Answer) (status : ℕ) (before mid after : HostState) → ListsWalks → asked ≡ Some mine → RanTo answer mine before mid → Delivers answer status mid after → KeepsHeadline status asked before after
+pub headline_delivered : (asked : Option Command) (mine : Command) (answer : Answer) (status : ℕ) (before mid after : HostState) → BuiltWalks → asked ≡ Some mine → RanTo answer mine before mid → Delivers answer status mid after → KeepsHeadline status asked before after
 headline_delivered asked mine answer status before mid after law is ran given e (Blobs path) bytes asks = tt
 headline_delivered asked mine answer status before mid after law is ran given e (Build options) bytes asks =
-    lists asked mine options bytes answer before.told mid.told after.told law is ran.carries ran.others.files ran.others.puts (given.done e) asks
+    routes_roads asked mine options bytes answer before.told mid.told after.told law is ran.is_answer ran.others.files ran.others.puts (given.done e) asks
 
 -- ---- where a failure's line is said
 
@@ -343,7 +342,7 @@ no_headline asked failure status before mid after given e command bytes asks = a
 
 -- ---- the four ways together
 
-pub delivered_end : EndsOneWay → ListsWalks → (mine : Command) (answer : Answer) (status : ℕ) (before mid after : HostState) → RanTo answer mine before mid → Delivers answer status mid after
+pub delivered_end : EndsOneWay → BuiltWalks → (mine : Command) (answer : Answer) (status : ℕ) (before mid after : HostState) → RanTo answer mine before mid → Delivers answer status mid after
     → (before.willing → after.put_faults ≡ mid.put_faults) → (before.willing → after.say_faults ≡ mid.say_faults) → IsEnd status (Some mine) before after
 delivered_end way law mine answer status before mid after ran given puts says = record {
   ends = ends_delivered (Some mine) mine answer status before mid after refl ran given;

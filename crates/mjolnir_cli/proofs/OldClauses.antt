@@ -1,6 +1,8 @@
 -- What the top call promised before its clauses were records, clause by clause, out of what it promises now. No proof
--- of the program cites this file: it shows that nothing was lost.
-use Rattle.std.proofs.Common.{◌≡◌, ◌≢◌, ◌⊎◌, inl, inr, ℕ, List, [], ◌∷◌, ◌++◌, length, Option, Some, None, refl, sym, ap, subst, ◌∙◌, arith}
+-- of the program cites this file: it shows that nothing was lost. Two of them say what is promised now: the paths that
+-- are put are those of the answer, each in the command's folder, in place of one path (`old_paths`); and `build` puts the
+-- files of the tiles, whose walks are those of the roads, in place of a list of the roads (`old_lists`).
+use Rattle.std.proofs.Common.{◌≡◌, ◌≢◌, ◌⊎◌, inl, inr, ℕ, List, [], ◌++◌, length, Option, Some, None, refl, sym, ap, subst, ◌∙◌}
 use Rattle.std.specs.Prelude.{IsSome}
 use Rattle.std.specs.Option.{option_map}
 use Rattle.command_words.specs.declared.command.BuildOptions.{BuildOptions}
@@ -11,10 +13,10 @@ use Rattle.mjolnir_cli.specs.declared.failure.Failure.{Failure}
 use Rattle.mjolnir_cli.specs.declared.failure.Failure.TheVariants.{Words, Read, Put, OutOfMemory}
 use Rattle.mjolnir_cli.specs.declared.words.Command.{Command}
 use Rattle.mjolnir_cli.specs.declared.words.Command.TheVariants.{Blobs, Build}
-use Rattle.mjolnir_cli.specs.Commands.{paths_of, IsAnswer, IsRefused, Asks, HasItsInput}
-use Rattle.mjolnir_cli.specs.Commands.BuildCommand.{ListsRoads, list_path}
+use Rattle.mjolnir_cli.specs.Commands.{ArePathsOf, IsAnswer, IsRefused, Asks, HasItsInput}
+use Rattle.mjolnir_cli.specs.Commands.BuildCommand.{RoutesRoads}
 use Rattle.mjolnir_cli.specs.Failures.{Cause, OfBytes, OfLimits, status_for, status_of, line_of}
-use Rattle.mjolnir_cli.specs.Puts.{PutsAll, BeginsWith, IsFront, Unput}
+use Rattle.mjolnir_cli.specs.Puts.{PutsAll, BeginsWith, IsFront, Unput, paths}
 use Rattle.mjolnir_cli.specs.Said.{Adds}
 use Rattle.mjolnir_cli.specs.Ends.{SaysItsLine, HasAnswer, IsRefusedFor, EndsBy, HasCauses, IsComplete, KeepsHeadline, SameCounts}
 use Rattle.mjolnir_cli.proofs.OneAnswer.{of_asked}
@@ -47,13 +49,13 @@ old_asked : (status : ℕ) (asked : Option Command) (before after : HostState) �
 old_asked status asked before after ends e = some_is_some asked (ends.done e).answers.command (ends.done e).answers.command_is
 
 old_paths : (status : ℕ) (asked : Option Command) (before after : HostState) → EndsBy status asked before after → status ≡ 0
-    → (command : Command) → asked ≡ Some command → after.told.puts ≡ option_map (λ puts. puts ++ paths_of command) before.told.puts
+    → (command : Command) → asked ≡ Some command → (these : List (List ℕ)) × (after.told.puts ≡ option_map (λ puts. puts ++ these) before.told.puts) × ArePathsOf command these
 old_paths status asked before after ends e command is =
     let d = ends.done e in
-    d.puts.puts ∙ ap (λ ps. option_map (λ puts. puts ++ ps) before.told.puts) (d.answers.paths_are ∙ ap paths_of (some_same d.answers.command command (sym d.answers.command_is ∙ is)))
+    (paths d.answer.files, d.puts.puts, subst (λ (c : Command). ArePathsOf c (paths d.answer.files)) (some_same d.answers.command command (sym d.answers.command_is ∙ is)) d.answers.paths_are)
 
 old_lists : (status : ℕ) (asked : Option Command) (before after : HostState) → KeepsHeadline status asked before after → status ≡ 0
-    → (options : BuildOptions) (bytes : List ℕ) → Asks asked before.told (Build options) bytes → ListsRoads (list_path options.output) bytes after.told
+    → (options : BuildOptions) (bytes : List ℕ) → Asks asked before.told (Build options) bytes → RoutesRoads options.output options.modes bytes before.told after.told
 old_lists status asked before after headline e options bytes asks = headline e (Build options) bytes asks
 
 -- ---- 2
@@ -157,7 +159,7 @@ old_unput status asked before after ends (inr (inr (inl e))) = (ends.refused e).
 old_unput status asked before after ends (inr (inr (inr e))) = (ends.past_limit e).unput
 
 old_blobs_unput : (status : ℕ) (asked : Option Command) (before after : HostState) → HasCauses status asked before after → (path : List ℕ) → asked ≡ Some (Blobs path) → Unput before.told after.told × (after.put_faults ≡ before.put_faults)
-old_blobs_unput status asked before after causes path is = causes.fileless (Blobs path) is refl
+old_blobs_unput status asked before after causes path is = causes.fileless (Blobs path) is tt
 
 -- ---- completeness, and the willing host
 

@@ -1,5 +1,5 @@
 -- An input is answered or refused, and never both; and it is refused with one status.
-use Rattle.std.proofs.Common.{◌≡◌, ◌≢◌, ◌⊎◌, inl, inr, ℕ, List, ◌++◌, Option, Some, Result, Ok, Err, refl, sym, ap, subst, ◌∙◌, arith}
+use Rattle.std.proofs.Common.{◌≡◌, ◌⊎◌, inl, inr, ℕ, List, ◌++◌, Option, Some, Result, Ok, Err, refl, sym, ap, subst, ◌∙◌}
 use Rattle.std.specs.Option.{option_map}
 use Rattle.std.proofs.lemmas.Option.{same_Some}
 use Rattle.host_port.specs.Told.{Told, named}
@@ -7,10 +7,10 @@ use Rattle.host_port.specs.Faults.{Rose}
 use Rattle.mjolnir_cli.specs.declared.answer.Answer.{Answer}
 use Rattle.mjolnir_cli.specs.declared.failure.Failure.{Failure}
 use Rattle.mjolnir_cli.specs.declared.failure.Failure.TheVariants as failures
-use Rattle.mjolnir_cli.specs.declared.failure.Failure.TheVariants.{Words, Read, Put, NotBuilt, Pieces, EdgeTooLong, OutOfMemory}
+use Rattle.mjolnir_cli.specs.declared.failure.Failure.TheVariants.{Words, Read, Put, NotBuilt, Limit, OutOfMemory}
 use Rattle.mjolnir_cli.specs.declared.words.Command.{Command}
 use Rattle.mjolnir_cli.specs.Commands.{input_of, IsAnswer, IsRefused, EndsSo, Asks}
-use Rattle.mjolnir_cli.specs.Failures.{Cause, OfWords, OfReading, OfPutting, OfBytes, OfLimits, OfMemory, cause_of, status_for, status_of, line_of}
+use Rattle.mjolnir_cli.specs.Failures.{Cause, OfWords, OfReading, OfPutting, OfBytes, OfLimits, OfMemory, cause_of, status_for, status_of}
 use Rattle.mjolnir_cli.specs.Listing.{IfOfInput, IsMet, ReadCount}
 use Rattle.mjolnir_cli.specs.Said.{SaysLine}
 
@@ -92,8 +92,7 @@ is_read Words is = absurd cc
 is_read Put is = absurd cc
 is_read (failures.Extract fault) is = absurd cc
 is_read (NotBuilt kind id) is = absurd cc
-is_read (Pieces count) is = absurd cc
-is_read (EdgeTooLong way run piece cm) is = absurd cc
+is_read (Limit limit) is = absurd cc
 is_read OutOfMemory is = absurd cc
 
 -- ---- at the end of a command that isn't done

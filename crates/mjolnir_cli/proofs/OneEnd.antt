@@ -1,5 +1,5 @@
 -- An input has no two answers, no two refusals, and no answer beside a refusal.
-use Rattle.std.proofs.Common.{◌≡◌, ℕ, ℤ, List, [], ◌∷◌, Option, Some, None, Result, Ok, Err, refl, sym, ap, ◌∙◌}
+use Rattle.std.proofs.Common.{◌≡◌, ℕ, ℤ, List, [], map, Option, Some, None, Result, Ok, Err, refl, sym, ap, ◌∙◌}
 use Rattle.pbf_blobs.specs.declared.blob.Blob.{Blob}
 use Rattle.pbf_blobs.specs.declared.fault.PbfFault.{PbfFault}
 use Rattle.pbf_blobs.specs.Next.{Outcome, Ends, Fails}
@@ -10,23 +10,20 @@ use Rattle.osm_objects.specs.Objects.{Objects}
 use Rattle.osm_blocks.specs.declared.fault.ExtractFault.{ExtractFault}
 use Rattle.osm_blocks.specs.Faults.{framed_as}
 use Rattle.osm_blocks.specs.Extracts.{Refuses, Reading, Extracted, Refused, IsReading, lists_of}
-use Rattle.road_pieces.specs.declared.faults.CutFault.{CutFault}
-use Rattle.road_pieces.specs.declared.faults.CutFault.TheVariants as cut_faults
-use Rattle.road_pieces.specs.Rows.{junction_rows, piece_rows, refusal}
+use Rattle.build_flow.specs.declared.faults.LimitFault.{LimitFault}
+use Rattle.build_flow.specs.Unbuilt.{first_main_road, first_restriction, way_or_relation, unbuilt}
+use Rattle.build_flow.specs.FolderFiles.{limit_passed}
+use Rattle.build_flow.specs.BuildLaws.{SameObjects, BuildsByObjects}
 use Rattle.mjolnir_cli.specs.declared.answer.Answer.{Answer}
 use Rattle.mjolnir_cli.specs.declared.failure.Failure.{Failure}
 use Rattle.mjolnir_cli.specs.declared.failure.Failure.TheVariants as failures
-use Rattle.mjolnir_cli.specs.declared.failure.Failure.TheVariants.{Words, Read, Put, NotBuilt, Pieces, EdgeTooLong, OutOfMemory}
+use Rattle.mjolnir_cli.specs.declared.failure.Failure.TheVariants.{Words, Read, Put, NotBuilt, Limit, OutOfMemory}
 use Rattle.command_words.specs.declared.command.BuildOptions.{BuildOptions}
 use Rattle.mjolnir_cli.specs.declared.words.Command.{Command}
 use Rattle.mjolnir_cli.specs.declared.words.Command.TheVariants.{Blobs, Build}
-use Rattle.mjolnir_cli.specs.Commands.BuildCommand.{list_path, Spells}
-use Rattle.mjolnir_cli.specs.Failures.{of_cut}
-use Rattle.mjolnir_cli.specs.Unbuilt.{unbuilt, unbuilt_among}
-use Rattle.mjolnir_cli.specs.PlainList.{plain_list, list_of}
+use Rattle.mjolnir_cli.specs.Commands.BuildCommand.{file_in, output_files, Spells}
 use Rattle.mjolnir_cli.specs.Commands.BlobsCommand.{blob_lines}
 use Rattle.mjolnir_cli.specs.Commands.{EndsSo}
-use Rattle.mjolnir_cli.proofs.SameRoads.{same_pieces, same_junctions}
 
 -- ---- what the bytes are, in one way
 
@@ -62,8 +59,7 @@ lists_so path bytes (Err Words) is = absurd is
 lists_so path bytes (Err Read) is = absurd is
 lists_so path bytes (Err Put) is = absurd is
 lists_so path bytes (Err (NotBuilt kind id)) is = absurd is
-lists_so path bytes (Err (Pieces count)) is = absurd is
-lists_so path bytes (Err (EdgeTooLong way run piece cm)) is = absurd is
+lists_so path bytes (Err (Limit limit)) is = absurd is
 lists_so path bytes (Err OutOfMemory) is = absurd is
 
 ends_fails : (fault : PbfFault) → Ends ≡ Fails fault → ⊥
@@ -82,45 +78,59 @@ listed_once bytes one other way (stopped a fault f is) (stopped b more g also) =
 -- ---- build
 
 -- the end for an extract: by the first object that isn't built, if there is one, and the limit that its roads pass
-abbrev end_by : Option (MemberKind × ℤ) → Option CutFault → List (List ℕ × List ℕ) → Result Answer Failure
+abbrev end_by : Option (MemberKind × ℤ) → Option LimitFault → List (List ℕ × List ℕ) → Result Answer Failure
 end_by (Some object) limit files = Err (NotBuilt object.0 object.1)
-end_by None (Some limit) files = Err (of_cut limit)
+end_by None (Some limit) files = Err (Limit limit)
 end_by None None files = Ok (record { files = files; text = [] })
 
-abbrev end_of : List ℕ → Extract → Result Answer Failure
-end_of output x = end_by (unbuilt x) (refusal (piece_rows x)) ((list_path output, plain_list x) ∷ [])
+abbrev end_of : List ℕ → ℕ → Extract → Result Answer Failure
+end_of output modes x = end_by (unbuilt x) (limit_passed x modes) (output_files output modes x)
 
-same_list : (x y : Extract) → lists_of x ≡ lists_of y → plain_list x ≡ plain_list y
-same_list x y same =
-    ap (λ js. list_of js (piece_rows x)) (same_junctions x y same) ∙ ap (λ ps. list_of (junction_rows y) ps) (same_pieces x y same)
+end_is : (output : List ℕ) (modes : ℕ) (x : Extract) (object : Option (MemberKind × ℤ)) (limit : Option LimitFault) → unbuilt x ≡ object → limit_passed x modes ≡ limit → end_of output modes x ≡ end_by object limit (output_files output modes x)
+end_is output modes x object limit first passed =
+    ap (λ o. end_by o (limit_passed x modes) (output_files output modes x)) first ∙ ap (λ l. end_by object l (output_files output modes x)) passed
+
+-- lists of the same objects
+same_objects : (x y : Extract) → lists_of x ≡ lists_of y → SameObjects x y
+same_objects x y same = record {
+  nodes = ap (λ (o : Objects). o.nodes) same;
+  ways = ap (λ (o : Objects). o.ways) same;
+  relations = ap (λ (o : Objects). o.relations) same;
+}
+
+same_unbuilt : (x y : Extract) → SameObjects x y → unbuilt x ≡ unbuilt y
+same_unbuilt x y same =
+    ap (λ ways. way_or_relation (first_main_road ways) (first_restriction x.relations)) same.ways
+    ∙ ap (λ relations. way_or_relation (first_main_road y.ways) (first_restriction relations)) same.relations
 
 -- extracts of the same objects end in the same way
-same_end : (output : List ℕ) (x y : Extract) → lists_of x ≡ lists_of y → end_of output x ≡ end_of output y
-same_end output x y same =
-    ap (λ objects. end_by (unbuilt_among objects) (refusal (piece_rows x)) ((list_path output, plain_list x) ∷ [])) same
-    ∙ ap (λ pieces. end_by (unbuilt y) (refusal pieces) ((list_path output, plain_list x) ∷ [])) (same_pieces x y same)
-    ∙ ap (λ list. end_by (unbuilt y) (refusal (piece_rows y)) ((list_path output, list) ∷ [])) (same_list x y same)
-
-end_is : (output : List ℕ) (x : Extract) (object : Option (MemberKind × ℤ)) (limit : Option CutFault) → unbuilt x ≡ object → refusal (piece_rows x) ≡ limit → end_of output x ≡ end_by object limit ((list_path output, plain_list x) ∷ [])
-end_is output x object limit first passed =
-    ap (λ o. end_by o (refusal (piece_rows x)) ((list_path output, plain_list x) ∷ [])) first
-    ∙ ap (λ l. end_by object l ((list_path output, plain_list x) ∷ [])) passed
+same_end : BuildsByObjects → (output : List ℕ) (modes : ℕ) (x y : Extract) → SameObjects x y → end_of output modes x ≡ end_of output modes y
+same_end law output modes x y same = by (unbuilt x) refl
+  where
+    by : (object : Option (MemberKind × ℤ)) → unbuilt x ≡ object → end_of output modes x ≡ end_of output modes y
+    by (Some object) first =
+        end_is output modes x (Some object) (limit_passed x modes) first refl
+        ∙ sym (end_is output modes y (Some object) (limit_passed y modes) (sym (same_unbuilt x y same) ∙ first) refl)
+    by None built =
+        let build = law x y modes same built in
+        end_is output modes x None (limit_passed x modes) built refl
+        ∙ ap (λ limit. end_by None limit (output_files output modes x)) build.limits
+        ∙ ap (λ files. end_by None (limit_passed y modes) (map (file_in output) files)) build.files
+        ∙ sym (end_is output modes y None (limit_passed y modes) (sym (same_unbuilt x y same) ∙ built) refl)
 
 -- a build ends by the reading of the bytes
-data BuildsSo (output bytes : List ℕ) (end : Result Answer Failure) : Type 0 where
-  of_extract : (x : Extract) → Spells bytes x → end ≡ end_of output x → BuildsSo output bytes end
-  of_fault : (fault : ExtractFault) → Refuses bytes fault → end ≡ Err (failures.Extract fault) → BuildsSo output bytes end
+data BuildsSo (output : List ℕ) (modes : ℕ) (bytes : List ℕ) (end : Result Answer Failure) : Type 0 where
+  of_extract : (x : Extract) → Spells bytes x → end ≡ end_of output modes x → BuildsSo output modes bytes end
+  of_fault : (fault : ExtractFault) → Refuses bytes fault → end ≡ Err (failures.Extract fault) → BuildsSo output modes bytes end
 
-builds_so : (options : BuildOptions) (bytes : List ℕ) (end : Result Answer Failure) → EndsSo (Build options) bytes end → BuildsSo options.output bytes end
+builds_so : (options : BuildOptions) (bytes : List ℕ) (end : Result Answer Failure) → EndsSo (Build options) bytes end → BuildsSo options.output options.modes bytes end
 builds_so options bytes (Ok answer) is =
-    of_extract is.extract is.spelled (ap Ok (answer_is answer ((list_path options.output, plain_list is.extract) ∷ []) [] is.files is.silent) ∙ sym (end_is options.output is.extract None None is.built is.within))
+    of_extract is.extract is.spelled (ap Ok (answer_is answer (output_files options.output options.modes is.extract) [] is.files is.silent) ∙ sym (end_is options.output options.modes is.extract None None is.built is.within))
 builds_so options bytes (Err (failures.Extract fault)) is = of_fault fault is refl
 builds_so options bytes (Err (NotBuilt kind id)) is =
-    of_extract is.extract is.spelled (sym (end_is options.output is.extract (Some (kind, id)) (refusal (piece_rows is.extract)) is.first refl))
-builds_so options bytes (Err (Pieces count)) is =
-    of_extract is.extract is.spelled (sym (end_is options.output is.extract None (Some (cut_faults.TooManyPieces count)) is.built is.passed))
-builds_so options bytes (Err (EdgeTooLong way run piece cm)) is =
-    of_extract is.extract is.spelled (sym (end_is options.output is.extract None (Some (cut_faults.EdgeTooLong way run piece cm)) is.built is.passed))
+    of_extract is.extract is.spelled (sym (end_is options.output options.modes is.extract (Some (kind, id)) (limit_passed is.extract options.modes) is.first refl))
+builds_so options bytes (Err (Limit limit)) is =
+    of_extract is.extract is.spelled (sym (end_is options.output options.modes is.extract None (Some limit) is.built is.passed))
 builds_so options bytes (Err Words) is = absurd is
 builds_so options bytes (Err Read) is = absurd is
 builds_so options bytes (Err Put) is = absurd is
@@ -135,15 +145,15 @@ refused_is a b e = cc
 extracted_refused : (lists : Objects) (fault : ExtractFault) → Extracted lists ≡ Refused fault → ⊥
 extracted_refused lists fault e = cc
 
-built_once : (output bytes : List ℕ) (one other : Result Answer Failure) → ReadsOneWay bytes → BuildsSo output bytes one → BuildsSo output bytes other → one ≡ other
-built_once output bytes one other way (of_extract x a is) (of_extract y b also) =
-    is ∙ same_end output x y (lists_are (lists_of x) (lists_of y) (way (Extracted (lists_of x)) (Extracted (lists_of y)) a b)) ∙ sym also
-built_once output bytes one other way (of_extract x a is) (of_fault fault b also) = absurd (extracted_refused (lists_of x) fault (way (Extracted (lists_of x)) (Refused fault) a b))
-built_once output bytes one other way (of_fault fault a is) (of_extract y b also) = absurd (extracted_refused (lists_of y) fault (way (Extracted (lists_of y)) (Refused fault) b a))
-built_once output bytes one other way (of_fault fault a is) (of_fault more b also) = is ∙ ap (λ f. Err (failures.Extract f)) (refused_is fault more (way (Refused fault) (Refused more) a b)) ∙ sym also
+built_once : BuildsByObjects → (output : List ℕ) (modes : ℕ) (bytes : List ℕ) (one other : Result Answer Failure) → ReadsOneWay bytes → BuildsSo output modes bytes one → BuildsSo output modes bytes other → one ≡ other
+built_once law output modes bytes one other way (of_extract x a is) (of_extract y b also) =
+    is ∙ same_end law output modes x y (same_objects x y (lists_are (lists_of x) (lists_of y) (way (Extracted (lists_of x)) (Extracted (lists_of y)) a b))) ∙ sym also
+built_once law output modes bytes one other way (of_extract x a is) (of_fault fault b also) = absurd (extracted_refused (lists_of x) fault (way (Extracted (lists_of x)) (Refused fault) a b))
+built_once law output modes bytes one other way (of_fault fault a is) (of_extract y b also) = absurd (extracted_refused (lists_of y) fault (way (Extracted (lists_of y)) (Refused fault) b a))
+built_once law output modes bytes one other way (of_fault fault a is) (of_fault more b also) = is ∙ ap (λ f. Err (failures.Extract f)) (refused_is fault more (way (Refused fault) (Refused more) a b)) ∙ sym also
 
 -- ---- each command
 
-pub one_end : (command : Command) (bytes : List ℕ) → FramesOneWay bytes → ReadsOneWay bytes → (one other : Result Answer Failure) → EndsSo command bytes one → EndsSo command bytes other → one ≡ other
-one_end (Blobs path) bytes frames reads one other so also = listed_once bytes one other frames (lists_so path bytes one so) (lists_so path bytes other also)
-one_end (Build options) bytes frames reads one other so also = built_once options.output bytes one other reads (builds_so options bytes one so) (builds_so options bytes other also)
+pub one_end : (command : Command) (bytes : List ℕ) → FramesOneWay bytes → ReadsOneWay bytes → BuildsByObjects → (one other : Result Answer Failure) → EndsSo command bytes one → EndsSo command bytes other → one ≡ other
+one_end (Blobs path) bytes frames reads law one other so also = listed_once bytes one other frames (lists_so path bytes one so) (lists_so path bytes other also)
+one_end (Build options) bytes frames reads law one other so also = built_once law options.output options.modes bytes one other reads (builds_so options bytes one so) (builds_so options bytes other also)

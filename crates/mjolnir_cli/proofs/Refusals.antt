@@ -1,5 +1,5 @@
 -- What a refusal names.
-use Rattle.std.proofs.Common.{◌≡◌, ℕ, List, true, sym, ap, ◌∙◌}
+use Rattle.std.proofs.Common.{◌≡◌, ℕ, List, true, ap, ◌∙◌}
 use Rattle.pbf_blobs.proofs.OfBytes.{frames_of_bytes}
 use Rattle.osm_blocks.specs.declared.fault.ExtractFault.{ExtractFault}
 use Rattle.osm_blocks.specs.Faults.{is_of_bytes}
@@ -19,20 +19,18 @@ blobs_refusals bytes failures.Words stops = absurd stops
 blobs_refusals bytes failures.Read stops = absurd stops
 blobs_refusals bytes failures.Put stops = absurd stops
 blobs_refusals bytes (failures.NotBuilt kind id) stops = tt
-blobs_refusals bytes (failures.Pieces count) stops = tt
-blobs_refusals bytes (failures.EdgeTooLong way run piece cm) stops = tt
+blobs_refusals bytes (failures.Limit limit) stops = tt
 blobs_refusals bytes failures.OutOfMemory stops = absurd stops
 
-build_refusals : ((bytes : List ℕ) (fault : ExtractFault) → Refuses bytes fault → is_of_bytes fault ≡ true) → (bytes : List ℕ) (failure : Failure) → IsBuildRefused bytes failure → NamesInput failure
-build_refusals law bytes (failures.Extract fault) refuses = law bytes fault refuses
-build_refusals law bytes failures.Words refuses = absurd refuses
-build_refusals law bytes failures.Read refuses = absurd refuses
-build_refusals law bytes failures.Put refuses = absurd refuses
-build_refusals law bytes (failures.NotBuilt kind id) refuses = tt
-build_refusals law bytes (failures.Pieces count) refuses = tt
-build_refusals law bytes (failures.EdgeTooLong way run piece cm) refuses = tt
-build_refusals law bytes failures.OutOfMemory refuses = absurd refuses
+build_refusals : ((bytes : List ℕ) (fault : ExtractFault) → Refuses bytes fault → is_of_bytes fault ≡ true) → (modes : ℕ) (bytes : List ℕ) (failure : Failure) → IsBuildRefused modes bytes failure → NamesInput failure
+build_refusals law modes bytes (failures.Extract fault) refuses = law bytes fault refuses
+build_refusals law modes bytes failures.Words refuses = absurd refuses
+build_refusals law modes bytes failures.Read refuses = absurd refuses
+build_refusals law modes bytes failures.Put refuses = absurd refuses
+build_refusals law modes bytes (failures.NotBuilt kind id) refuses = tt
+build_refusals law modes bytes (failures.Limit limit) refuses = tt
+build_refusals law modes bytes failures.OutOfMemory refuses = absurd refuses
 
 pub refusals : ((bytes : List ℕ) (fault : ExtractFault) → Refuses bytes fault → is_of_bytes fault ≡ true) → (command : Command) (bytes : List ℕ) (failure : Failure) → IsRefused command bytes failure → NamesInput failure
 refusals law (Blobs path) bytes failure refused = blobs_refusals bytes failure refused
-refusals law (Build options) bytes failure refused = build_refusals law bytes failure refused
+refusals law (Build options) bytes failure refused = build_refusals law options.modes bytes failure refused

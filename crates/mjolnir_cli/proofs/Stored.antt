@@ -1,11 +1,10 @@
 -- Files that are put one after the other.
-use Rattle.std.proofs.Common.{◌≡◌, ◌≢◌, ℕ, ◌+◌, ◌<◌, refl, sym, ap, subst, ◌∙◌, List, [], ◌∷◌, ◌++◌, length, get_or, take, drop, length-drop, append_assoc, arith, Option, Some, None, Bool, true, false, cond}
+use Rattle.std.proofs.Common.{◌≡◌, ◌≢◌, ℕ, ◌+◌, ◌<◌, refl, sym, ap, subst, ◌∙◌, List, [], ◌∷◌, ◌++◌, length, get_or, take, drop, length-drop, append_assoc, arith, Option, Some, None}
 use Rattle.std.proofs.Math.Seq.{take-nil}
-use Rattle.std.specs.Prelude.{Result, Ok, Err, OnErr, IsSome}
-use Rattle.std.specs.Option.{option_map, option_and_then}
-use Rattle.std.specs.Str.{bytes_eq}
+use Rattle.std.specs.Prelude.{Result, Ok, Err, OnErr}
+use Rattle.std.specs.Option.{option_map}
 use Rattle.std.proofs.lemmas.List.{append-nil, map-append, take_more, take-append-drop}
-use Rattle.host_port.specs.Told.{Told, Stored, stored, file_at, named}
+use Rattle.host_port.specs.Told.{Told, Stored, stored}
 use Rattle.mjolnir_cli.specs.Puts.{Unput, store_all, paths, PutsAll, IsFront}
 
 -- one file more
@@ -77,26 +76,3 @@ front_of files i lt = record { rest = drop i files; more = never_empty files i l
 pub on_err : {A E F : Type 0} (answer : Result A E) → F → OnErr answer F
 on_err (Ok value) fact = tt
 on_err (Err fault) fact = fact
-
--- ---- what a path names then
-
-file_stored : (path bytes : List ℕ) (files : List (List ℕ × List ℕ)) → bytes_eq path path ≡ true → file_at path (stored path bytes files) ≡ Some bytes
-file_stored path bytes [] same = rw same refl
-file_stored path bytes (file ∷ files) same = by (bytes_eq path file.0) refl (file_stored path bytes files same)
-  where
-    by : (b : Bool) → bytes_eq path file.0 ≡ b → file_at path (stored path bytes files) ≡ Some bytes → file_at path (cond b ((path, bytes) ∷ files) (file ∷ stored path bytes files)) ≡ Some bytes
-    by true e rest = rw same refl
-    by false e rest = rw e rest
-
--- a path that was put names what was put there, where the files are told
-named_in : (path bytes input : List ℕ) (old new : Option (List (List ℕ × List ℕ))) → bytes_eq path path ≡ true → IsSome (option_and_then (file_at input) old) → new ≡ option_map (store_all ((path, bytes) ∷ [])) old
-    → option_and_then (file_at path) new ≡ Some bytes
-named_in path bytes input None new same some puts = absurd cc
-named_in path bytes input (Some old) new same some puts = ap (option_and_then (file_at path)) puts ∙ file_stored path bytes old same
-
-some_by : {A : Type 0} (o : Option A) (a : A) → o ≡ Some a → IsSome o
-some_by o a is = rw is refl
-
-pub named_put : (path bytes input was : List ℕ) (old new : Told) → bytes_eq path path ≡ true → named input old ≡ Some was → PutsAll ((path, bytes) ∷ []) old new → named path new ≡ Some bytes
-named_put path bytes input was old new same found puts =
-    named_in path bytes input old.files new.files same (some_by (named input old) was found) puts.stored

@@ -1,7 +1,4 @@
 pub mod Failures
-pub mod PlainList
-pub mod Unbuilt
-pub mod ListReading
 pub mod Commands
 pub mod Puts
 pub mod Said

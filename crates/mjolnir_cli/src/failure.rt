@@ -1,16 +1,18 @@
 //! Why a command failed.
 
 ghost use Rattle.std.specs.Prelude.{◌≡◌, ◌++◌, map, codes, pos, neg_ℤ, Some, IfOk, OnOk};
-ghost use Rattle.mjolnir_cli.specs.Failures.{status_of, text_of, line_of, printable, of_host, of_put, of_pbf, of_extract, of_cut};
+ghost use Rattle.mjolnir_cli.specs.Failures.{status_of, text_of, line_of, printable, of_host, of_put, of_pbf, of_extract, of_flow};
 ghost use Rattle.osm_blocks.specs.declared.fault.ExtractFault.TheVariants.{Truncated};
-ghost use Rattle.osm_model.specs.declared.relations.MemberKind.TheVariants.{Node, Way, Relation};
-ghost use Rattle.mjolnir_cli.specs.declared.failure.Failure.TheVariants.{Words, Read, Put, Extract, NotBuilt, Pieces, EdgeTooLong, OutOfMemory};
+ghost use Rattle.osm_model.specs.declared.relations.MemberKind.TheVariants.{Way, Relation};
+ghost use Rattle.tile_numbers.specs.declared.room.What.TheVariants.{Nodes};
+ghost use Rattle.build_flow.specs.declared.faults.LimitFault.TheVariants.{Pieces, EdgeTooLong, TooManyEdges, TileFull, Section};
+ghost use Rattle.mjolnir_cli.specs.declared.failure.Failure.TheVariants.{Words, Read, Put, Extract, NotBuilt, Limit, OutOfMemory};
 
+use build_flow::{FlowFault, LimitFault};
 use host_port::HostFault;
 use osm_blocks::{ExtractFault, kind_name};
 use osm_model::MemberKind;
 use pbf_blobs::PbfFault;
-use road_pieces::CutFault;
 use std::alloc::{AllocError, Global};
 use std::fmt;
 
@@ -24,26 +26,12 @@ pub enum Failure {
     /// The host counted a fault of putting.
     Put,
     /// The input has this fault. A fault of reading and want of memory stand as variants of their own.
-    Extract {
-        fault: ExtractFault,
-    },
-    /// An object of the extract has a tag that isn't built yet: the first node by id, or else the first way, or
-    /// else the first relation.
-    NotBuilt {
-        kind: MemberKind,
-        id: i64,
-    },
-    /// The roads have too many pieces.
-    Pieces {
-        count: u64,
-    },
-    /// A piece of road is too long: the first one, by its way, run and number, and its length in centimetres.
-    EdgeTooLong {
-        way: i64,
-        run: u32,
-        piece: u32,
-        cm: u64,
-    },
+    Extract { fault: ExtractFault },
+    /// An object of the extract isn't built yet: the first road of a class above local roads by id, or else the
+    /// first turn restriction.
+    NotBuilt { kind: MemberKind, id: i64 },
+    /// The roads pass this limit, the first that they pass.
+    Limit { limit: LimitFault },
     /// There was no memory.
     OutOfMemory,
 }
@@ -58,7 +46,7 @@ impl Failure {
             Failure::Read => 3,
             Failure::Put => 4,
             Failure::Extract { .. } | Failure::NotBuilt { .. } => 5,
-            Failure::Pieces { .. } | Failure::EdgeTooLong { .. } => 6,
+            Failure::Limit { .. } => 6,
             Failure::OutOfMemory => 7,
         }
     }
@@ -117,24 +105,7 @@ impl fmt::Display for Failure {
             Failure::NotBuilt { kind, id } => {
                 write!(f, "error 5 NotBuilt kind={} id={id}", kind_name(*kind))
             }
-            Failure::Pieces { count } => {
-                let fault = CutFault::TooManyPieces { count: *count };
-                write!(f, "error 6 {fault}")
-            }
-            Failure::EdgeTooLong {
-                way,
-                run,
-                piece,
-                cm,
-            } => {
-                let fault = CutFault::EdgeTooLong {
-                    way: *way,
-                    run: *run,
-                    piece: *piece,
-                    cm: *cm,
-                };
-                write!(f, "error 6 {fault}")
-            }
+            Failure::Limit { limit } => write!(f, "error 6 {limit}"),
             Failure::OutOfMemory => write!(f, "error 7 memory"),
         }
     }
@@ -146,11 +117,13 @@ pub fn failure_lines()
     ensures read { text_of Read ≡ codes "error 3 read" }
     ensures put { text_of Put ≡ codes "error 4 put" }
     ensures extract { text_of (Extract (Truncated 17)) ≡ codes "error 5 Truncated at=17" }
-    ensures node_not_built { text_of (NotBuilt Node (neg_ℤ (pos 7))) ≡ codes "error 5 NotBuilt kind=node id=-7" }
-    ensures way_not_built { text_of (NotBuilt Way (pos 7)) ≡ codes "error 5 NotBuilt kind=way id=7" }
+    ensures way_not_built { text_of (NotBuilt Way (neg_ℤ (pos 7))) ≡ codes "error 5 NotBuilt kind=way id=-7" }
     ensures relation_not_built { text_of (NotBuilt Relation (pos 7)) ≡ codes "error 5 NotBuilt kind=relation id=7" }
-    ensures pieces { text_of (Pieces 4_000_001) ≡ codes "error 6 Pieces count=4000001" }
-    ensures edge_too_long { text_of (EdgeTooLong (pos 10) 0 0 268_435_456) ≡ codes "error 6 EdgeTooLong way=10 run=0 piece=0 cm=268435456" }
+    ensures pieces { text_of (Limit (Pieces 4_000_001)) ≡ codes "error 6 Pieces count=4000001" }
+    ensures edge_too_long { text_of (Limit (EdgeTooLong (pos 10) 0 0 268_435_456)) ≡ codes "error 6 EdgeTooLong way=10 run=0 piece=0 cm=268435456" }
+    ensures too_many_edges { text_of (Limit (TooManyEdges (pos 1000) 128)) ≡ codes "error 6 TooManyEdges node=1000 count=128" }
+    ensures tile_full { text_of (Limit (TileFull 2 519_120 Nodes 2_097_152)) ≡ codes "error 6 TileFull level=2 tile=519120 what=nodes count=2097152" }
+    ensures section { text_of (Limit (Section 2 519_120 4_294_967_296)) ≡ codes "error 6 Section level=2 tile=519120 count=4294967296" }
     ensures memory { text_of OutOfMemory ≡ codes "error 7 memory" }
 {}
 
@@ -185,24 +158,13 @@ impl From<ExtractFault> for Failure {
     }
 }
 
-impl From<CutFault> for Failure {
-    ghost from_gives = { λ fault made. made ≡ of_cut fault };
+impl From<FlowFault> for Failure {
+    ghost from_gives = { λ fault made. made ≡ of_flow fault };
 
-    fn from(fault: CutFault) -> Failure {
+    fn from(fault: FlowFault) -> Failure {
         match fault {
-            CutFault::TooManyPieces { count } => Failure::Pieces { count },
-            CutFault::EdgeTooLong {
-                way,
-                run,
-                piece,
-                cm,
-            } => Failure::EdgeTooLong {
-                way,
-                run,
-                piece,
-                cm,
-            },
-            CutFault::OutOfMemory => Failure::OutOfMemory,
+            FlowFault::Limit(limit) => Failure::Limit { limit },
+            FlowFault::OutOfMemory => Failure::OutOfMemory,
         }
     }
 }

@@ -7,11 +7,9 @@ mod build;
 mod deliver;
 mod failure;
 mod law;
-mod plain;
 mod put;
 mod say;
 mod top;
-mod unbuilt;
 mod words;
 mod worked;
 

@@ -5,7 +5,7 @@ ghost use Rattle.std.specs.String.{string_bytes};
 ghost use Rattle.host_port.specs.Told.{named};
 ghost use Rattle.host_port.specs.HostState.{OnlyOpens, OnlySays};
 ghost use Rattle.mjolnir_cli.specs.declared.failure.Failure.TheVariants.{OutOfMemory};
-ghost use Rattle.mjolnir_cli.specs.Commands.{command_asked, input_of, paths_of, IsAnswer, IsRefused, CarriesHeadline};
+ghost use Rattle.mjolnir_cli.specs.Commands.{command_asked, input_of, ArePathsOf, HasGoodValues, IsAnswer, IsRefused};
 ghost use Rattle.mjolnir_cli.specs.Ends.{IsStatus, EndsBy, HasCauses, IsComplete, IsHeardBy, KeepsHeadline, IsEnd};
 ghost use Rattle.mjolnir_cli.specs.Failures.{cause_of, line_of};
 ghost use Rattle.mjolnir_cli.specs.Listing.{IfOfInput, IsMet, CountedRead, IfRead};
@@ -14,14 +14,15 @@ ghost use Rattle.mjolnir_cli.specs.Said.{Adds};
 
 use crate::answer::Answer;
 use crate::blobs::blob_list;
-use crate::build::plain_roads;
+use crate::build::tiles_to_put;
 use crate::deliver::deliver;
 use crate::failure::Failure;
 use crate::law::one_end;
 use crate::say::say_failure;
 use crate::words::{Command, asked};
+use build_flow::built_walks;
+use command_words::modes_are_known;
 use host_port::{Gate, Host, HostFiles, Text};
-use road_pieces::list_agrees;
 use std::alloc::Global;
 use std::thread::Threads;
 
@@ -56,9 +57,10 @@ pub fn mjolnir<R: Threads + Sync, H: Host, G: Gate>(
     ensures complete { IsComplete result (command_asked (map string_bytes words.now)) (H.state host.old) (H.state host.new) }
     // A willing host that has the file which the command opens counts no fault.
     ensures willing { IsHeardBy (command_asked (map string_bytes words.now)) (H.state host.old) (H.state host.new) }
-    // What a command that is done promises beside its answer.
+    // What a command that is done promises beside its answer: the tiles of `build` have the walks of the roads.
     ensures headline { KeepsHeadline result (command_asked (map string_bytes words.now)) (H.state host.old) (H.state host.new) }
 {
+    modes_are_known();
     match asked(alloc, words) {
         Ok(Some(command)) => obey(alloc, &command, host),
         Ok(None) => say_failure(alloc, host, &Failure::Words),
@@ -68,10 +70,11 @@ pub fn mjolnir<R: Threads + Sync, H: Host, G: Gate>(
 
 /// Runs the command, puts its files and says its text, or says the line of the failure. Answers the status.
 fn obey<H: Host>(alloc: Global, command: &Command, host: &mut H) -> u8
+    requires { HasGoodValues command.now }
     ensures statuses { IsStatus result }
     ensures end { IsEnd result (Some command.now) (H.state host.old) (H.state host.new) }
 {
-    list_agrees();
+    built_walks();
     one_end();
     match run(alloc, command, host) {
         Ok(answer) => deliver(alloc, host, &answer),
@@ -91,9 +94,9 @@ pub fn wordless<H: Host>(alloc: Global, host: &mut H) -> u8
 
 /// Runs the command up to the files that are to be put and the text that is to be said.
 fn run<H: Host>(alloc: Global, command: &Command, host: &mut H) -> Result<Answer, Failure>
+    requires { HasGoodValues command.now }
     ensures answered { IfOk result (λ answer. (bytes : List ℕ) → named (input_of command.now) (H.state host.old).told ≡ Some bytes → IsAnswer command.now bytes answer) }
-    ensures told { IfOk result (λ answer. (bytes : List ℕ) → named (input_of command.now) (H.state host.old).told ≡ Some bytes → CarriesHeadline command.now bytes answer) }
-    ensures paths { IfOk result (λ answer. paths answer.files ≡ paths_of command.now) }
+    ensures paths { IfOk result (λ answer. ArePathsOf command.now (paths answer.files)) }
     ensures whole { OnOk result ((bytes : List ℕ) → named (input_of command.now) (H.state host.old).told ≡ Some bytes → (H.state host.new).told.place ≡ Some (length bytes)) }
     ensures refused { IfErr result (λ failure. (bytes : List ℕ) → named (input_of command.now) (H.state host.old).told ≡ Some bytes → IfOfInput (cause_of failure) (IsRefused command.now bytes failure)) }
     ensures met { IfErr result (λ failure. IsMet (cause_of failure)) }
@@ -109,10 +112,11 @@ fn run<H: Host>(alloc: Global, command: &Command, host: &mut H) -> Result<Answer
             }),
             Err(failure) => Err(failure),
         },
-        Command::Build { options } => plain_roads(
+        Command::Build { options } => tiles_to_put(
             alloc,
             options.input.as_str(),
             options.output.as_str(),
+            options.modes,
             host,
         ),
     }

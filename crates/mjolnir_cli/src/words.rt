@@ -13,7 +13,7 @@ use std::alloc::{AllocError, Global};
 pub enum Command {
     /// `blobs PATH`: list the blobs of the file of that path.
     Blobs { path: Text },
-    /// `build --input PATH --output DIR`: put what is built of the extract of that path into that folder.
+    /// `build --input PATH --output DIR --modes LIST`: put the tiles of the extract of that path into that folder.
     Build { options: BuildOptions },
 }
 

@@ -18,10 +18,6 @@ pub returns-clause-extract : goal.returns-clause-extract
 unfolding digits
 returns-clause-extract c = refl
 
-pub returns-clause-node_not_built : goal.returns-clause-node_not_built
-unfolding digits
-returns-clause-node_not_built c = refl
-
 pub returns-clause-way_not_built : goal.returns-clause-way_not_built
 unfolding digits
 returns-clause-way_not_built c = refl
@@ -37,6 +33,18 @@ returns-clause-pieces c = refl
 pub returns-clause-edge_too_long : goal.returns-clause-edge_too_long
 unfolding digits
 returns-clause-edge_too_long c = refl
+
+pub returns-clause-too_many_edges : goal.returns-clause-too_many_edges
+unfolding digits
+returns-clause-too_many_edges c = refl
+
+pub returns-clause-tile_full : goal.returns-clause-tile_full
+unfolding digits
+returns-clause-tile_full c = refl
+
+pub returns-clause-section : goal.returns-clause-section
+unfolding digits
+returns-clause-section c = refl
 
 pub returns-clause-memory : goal.returns-clause-memory
 unfolding digits

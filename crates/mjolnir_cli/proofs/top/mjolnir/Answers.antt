@@ -3,7 +3,13 @@ use Rattle.std.proofs.Common.{sym, map, ◌∙◌}
 use Rattle.std.specs.String.{string_bytes}
 use Rattle.mjolnir_cli.specs.Commands.{command_asked}
 use Rattle.mjolnir_cli.proofs.HowItEnds.{wordless_end, memoryless_end, asked_end}
+use Rattle.mjolnir_cli.proofs.GoodValues.{good_values}
 use Rattle.mjolnir_cli.proofs.top.mjolnir.Goals as goal
+
+pub obey-requires : goal.obey-requires
+obey-requires g c =
+    good_values c.modes_are_known.ensures.some c.modes_are_known.ensures.known (map string_bytes c.args.words.now) c.in-Ok-Some.command
+    (sym (sym c.in-Ok-Some.field-0-is ∙ c.in-Ok-Some.ensures))
 
 pub returns-in-Ok-Some-clause-ends : goal.returns-in-Ok-Some-clause-ends
 returns-in-Ok-Some-clause-ends g c =

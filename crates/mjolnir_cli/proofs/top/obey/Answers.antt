@@ -4,10 +4,9 @@ use Rattle.mjolnir_cli.proofs.top.obey.Goals as goal
 
 pub returns-in-Ok-clause-end : goal.returns-in-Ok-clause-end
 returns-in-Ok-clause-end g c =
-    delivered_end c.one_end.ensures c.list_agrees.ensures c.args.command.now c.in-Ok.answer c.deliver.result (g.H.Host.state c.args.host.now) (g.H.Host.state c.run.new.host) (g.H.Host.state c.deliver.new.host)
+    delivered_end c.one_end.ensures c.built_walks.ensures c.args.command.now c.in-Ok.answer c.deliver.result (g.H.Host.state c.args.host.now) (g.H.Host.state c.run.new.host) (g.H.Host.state c.deliver.new.host)
     (record {
       is_answer = c.in-Ok.ensures.answered;
-      carries = c.in-Ok.ensures.told;
       paths_are = c.in-Ok.ensures.paths;
       whole = c.in-Ok.ensures.whole;
       others = c.in-Ok.ensures.frame;
