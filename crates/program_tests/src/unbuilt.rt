@@ -188,10 +188,29 @@ fn says_with<R: Threads + Sync + AllocGlobal>(
 // and the next block begins at 88 + 4 + 11 + 2 = 105.
 #[test]
 fn other_faults_come_first(rt: HostRuntime) -> Result<(), Fail> {
-    assert!(rt; says_of(&rt, "way 7 highway=primary,way 7 highway=primary", "error 5 DuplicateId kind=way id=7\n")?);
-    assert!(rt; says_of(&rt, "relation 2 type=route,way 7 highway=primary,relation 2 type=restriction", "error 5 DuplicateId kind=relation id=2\n")?);
+    assert!(rt;
+        says_of(
+            &rt,
+            "way 7 highway=primary,way 7 highway=primary",
+            "error 5 DuplicateId kind=way id=7\n"
+        )?
+    );
+    assert!(rt;
+        says_of(
+            &rt,
+            "relation 2 type=route,way 7 highway=primary,relation 2 type=restriction",
+            "error 5 DuplicateId kind=relation id=2\n"
+        )?
+    );
     let way = objects_of(rt.alloc(), "way 7 highway=primary")?;
-    assert!(rt; says_with(&rt, &way, b"\x08\x00", "error 5 MissingField at=105 number=1\n")?);
+    assert!(rt;
+        says_with(
+            &rt,
+            &way,
+            b"\x08\x00",
+            "error 5 MissingField at=105 number=1\n"
+        )?
+    );
     Ok(())
 }
 

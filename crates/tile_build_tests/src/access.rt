@@ -120,8 +120,11 @@ fn a_footway_across(rt: HostRuntime) -> Result<(), Fail> {
 }
 
 const FOOTWAY: &str = "out/2/000/519/120.gph";
+
 const CYCLEWAY: &str = "out/2/000/519/121.gph";
+
 const STREET: &str = "out/2/000/519/122.gph";
+
 const BUS_ROAD: &str = "out/2/000/519/123.gph";
 
 /// A footway, a cycleway, a residential road and a road for buses, each from one node to another in a tile of its own.

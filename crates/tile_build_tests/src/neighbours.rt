@@ -158,7 +158,13 @@ fn two_tiles(alloc: Global) -> Result<BlockWriter, AllocError> {
 fn neighbouring_tiles(rt: HostRuntime) -> Result<(), Fail> {
     let (status, host) = built(&rt, &two_tiles(rt.alloc())?, ALL)?;
     assert_eq!(rt; (status, host.said.len()), (0, 0));
-    assert!(rt; puts_are(rt.alloc(), &host, "out/2/000/519/120.gph out/2/000/519/121.gph")?);
+    assert!(rt;
+        puts_are(
+            rt.alloc(),
+            &host,
+            "out/2/000/519/120.gph out/2/000/519/121.gph"
+        )?
+    );
     assert!(rt; file_is(rt.alloc(), &host, TILE_PATH, &WEST)?);
     assert!(rt; file_is(rt.alloc(), &host, "out/2/000/519/121.gph", &EAST)?);
     Ok(())
@@ -186,7 +192,10 @@ fn put_fails<R: Threads + Sync + AllocGlobal>(
 fn a_put_fails(rt: HostRuntime) -> Result<(), Fail> {
     let (status, whole) = built(&rt, &two_tiles(rt.alloc())?, ALL)?;
     let last = whole.calls.saturating_sub(1);
-    assert_eq!(rt; (status, file_is(rt.alloc(), &whole, TILE_PATH, &WEST)?), (0, true));
+    assert_eq!(rt;
+        (status, file_is(rt.alloc(), &whole, TILE_PATH, &WEST)?),
+        (0, true)
+    );
     assert!(rt; put_fails(&rt, last.saturating_sub(1), b"older", 0)?);
     assert!(rt; put_fails(&rt, last, file_of(&whole, TILE_PATH), 1)?);
     Ok(())

@@ -33,7 +33,10 @@ fn sum_of(bytes: &[u8]) -> u64 {
 fn edges_at_a_junction(rt: HostRuntime) -> Result<(), Fail> {
     let (status, host) = built(&rt, &star(rt.alloc(), 127)?, "auto")?;
     let tile = file_of(&host, TILE_PATH);
-    assert_eq!(rt; (status, tile.len(), sum_of(tile)), (0, 17_368, 0x360c_4983_7c42_e7cf));
+    assert_eq!(rt;
+        (status, tile.len(), sum_of(tile)),
+        (0, 17_368, 0x360c_4983_7c42_e7cf)
+    );
     assert!(rt; puts_are(rt.alloc(), &host, TILE_PATH)?);
     Ok(())
 }
@@ -41,6 +44,13 @@ fn edges_at_a_junction(rt: HostRuntime) -> Result<(), Fail> {
 #[test]
 fn one_edge_too_many(rt: HostRuntime) -> Result<(), Fail> {
     let objects = star(rt.alloc(), 128)?;
-    assert!(rt; puts_nothing(&rt, &objects, 6, "error 6 TooManyEdges node=1000 count=128\n")?);
+    assert!(rt;
+        puts_nothing(
+            &rt,
+            &objects,
+            6,
+            "error 6 TooManyEdges node=1000 count=128\n"
+        )?
+    );
     Ok(())
 }
