@@ -160,35 +160,33 @@ fn options(rt: HostRuntime) -> Result<(), Fail> {
 // The names of modes come in any order: bus is 64, auto 1, pedestrian 2.
 #[test]
 fn options_with_modes(rt: HostRuntime) -> Result<(), Fail> {
-    for (words, modes) in [
-        (
-            [
-                "build",
-                "--modes=bus,auto",
-                "--output",
-                "out",
-                "--input",
-                "city.osm.pbf",
-            ]
-            .as_slice(),
-            65,
-        ),
-        (
-            &[
-                "build",
-                "--modes",
-                "pedestrian",
-                "--workers=7",
-                "--output",
-                "out",
-                "--input",
-                "city.osm.pbf",
-            ],
-            2,
-        ),
-    ] {
-        assert!(rt; builds(&rt, words, modes)?, "{words:?}");
-    }
+    let two = builds(
+        &rt,
+        &[
+            "build",
+            "--modes=bus,auto",
+            "--output",
+            "out",
+            "--input",
+            "city.osm.pbf",
+        ],
+        65,
+    )?;
+    let one = builds(
+        &rt,
+        &[
+            "build",
+            "--modes",
+            "pedestrian",
+            "--workers=7",
+            "--output",
+            "out",
+            "--input",
+            "city.osm.pbf",
+        ],
+        2,
+    )?;
+    assert_eq!(rt; (two, one), (true, true));
     Ok(())
 }
 
