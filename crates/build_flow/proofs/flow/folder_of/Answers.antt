@@ -1,7 +1,7 @@
 use Rattle.std.proofs.Common.{◌≡◌, subst}
 use Rattle.std.specs.Prelude.{None, IfOk, IfErr, OnOk}
 use Rattle.build_flow.specs.FolderFiles.{IsFault}
-use Rattle.build_flow.proofs.Flow.{can_be_built, files_are, limit_is, cut_fails}
+use Rattle.build_flow.proofs.WholeBuild.{can_be_built, files_are, limit_is, cut_fails}
 use Rattle.build_flow.proofs.flow.folder_of.Goals as goal
 
 pub files_of_roads-requires-clause-roads : goal.files_of_roads-requires-clause-roads
