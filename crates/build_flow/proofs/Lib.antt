@@ -4,4 +4,4 @@ mod Roads
 mod Local
 mod TileWalks
 mod ByObjects
-mod Flow
+mod WholeBuild

@@ -46,7 +46,7 @@ no_restriction x built = none_found (λ relation. is_restriction relation.tags) 
 low_class : (class : ℕ) → nat_lt class 5 ≡ false → class_level class ≡ 2
 low_class class high = by (nat_le class 2) (nat_le class 4) refl refl
   where
-    by : (p q : Bool) → nat_le class 2 ≡ p → nat_le class 4 ≡ q → cond p 0 (cond q 1 2) ≡ 2
+    by : (p q : Bool) → nat_le class 2 ≡ p → nat_le class 4 ≡ q → ◌≡◌ {A = ℕ} (cond {A = ℕ} p 0 (cond {A = ℕ} q 1 2)) 2
     by true q e f = absurd (both_ways (nat_lt class 5) high (lt-ltb class 5 (omega (arith, leb-true class 2 e))))
     by false true e f = absurd (both_ways (nat_lt class 5) high (lt-ltb class 5 (omega (arith, leb-true class 4 f))))
     by false false e f = refl

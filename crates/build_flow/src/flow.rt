@@ -15,7 +15,7 @@ use crate::files::files_of;
 use access_filter::keep;
 use edge_builder::{BaseFault, base_tiles, extract_roads};
 use host_port::HostFiles;
-use kept_checks::kept_are_finishable;
+use kept_checks::{kept_are_finishable, pieces_spell};
 use level_tiles::kept_make_tiles;
 use osm_model::Extract;
 use road_pieces::{CutFault, Roads, cut};
@@ -41,7 +41,10 @@ pub fn folder_of(alloc: Global, extract: Extract, modes: u16) -> Result<HostFile
     kept_are_finishable();
     kept_make_tiles();
     match roads_of(alloc, extract) {
-        Ok(roads) => files_of_roads(alloc, &roads, modes),
+        Ok(roads) => {
+            pieces_spell(&roads.pieces);
+            files_of_roads(alloc, &roads, modes)
+        }
         Err(fault) => Err(FlowFault::from(fault)),
     }
 }

@@ -23,13 +23,14 @@ Says a line for each blob of the extract: its place, its type, its size in bytes
 pub const BUILD_USAGE: &str =
     "usage: mjolnir build --input PATH --output DIR [--workers W] [--modes LIST]
 
-Puts the list of the extract's roads into the folder, as DIR/plain.lst. The tiles come later.
+Puts a file for each tile of the extract's local roads into the folder, as DIR/2/000/519/120.gph. Roads from
+motorway to tertiary road and turn restrictions aren't built yet: an extract with one is refused.
 
   --input PATH    the extract, in the PBF format, written without compression
   --output DIR    the folder; it is made where it isn't there
-  --workers W     1 to 64 workers (1); the list is the same with each
+  --workers W     1 to 64 workers (1); one does the work yet
   --modes LIST    modes, with commas between them (auto,pedestrian,bicycle,truck,bus);
-                  the list has the roads of all, whichever are named
+                  a road is built where one of them may use it
 
   mjolnir build --input city.osm.pbf --output out/city
 ";
@@ -58,8 +59,8 @@ usage: mjolnir COMMAND ...
       mjolnir blobs city.osm.pbf
 
   build --input PATH --output DIR [--workers W] [--modes LIST]
-      puts the list of the extract's roads into the folder, as DIR/plain.lst
-      W is 1 to 64 (1), LIST some of auto,pedestrian,bicycle,truck,bus (all); neither changes the list
+      puts a file for each tile of the extract's local roads into the folder, as DIR/2/000/519/120.gph
+      W is 1 to 64 (1) and changes nothing yet, LIST some of auto,pedestrian,bicycle,truck,bus (all)
       mjolnir build --input city.osm.pbf --output out/city
 
   COMMAND --help says more of a command

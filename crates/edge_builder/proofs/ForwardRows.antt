@@ -4,16 +4,13 @@ use Rattle.std.specs.List.{flat_map, enumerate_from, position_or_len}
 use Rattle.std.specs.Option.{option_map_or}
 use Rattle.std.proofs.lemmas.List.{map-append}
 use Rattle.std.proofs.lemmas.List.Elements.{filter-append}
-use Rattle.fixed_geo.specs.declared.points.Point.{Point}
-use Rattle.osm_model.specs.declared.tags.Tag.{Tag}
 use Rattle.osm_model.specs.declared.ways.OsmWay.{OsmWay}
 use Rattle.osm_model.specs.declared.extract.Extract.{Extract}
-use Rattle.road_pieces.specs.declared.rows.Piece.{Piece}
 use Rattle.road_pieces.specs.DirectedPiece.{DirectedPiece}
 use Rattle.road_pieces.specs.Lengths.{point, piece_cm}
 use Rattle.road_pieces.specs.Rules.{class_of, forward_access, backward_access, names_of, way_tags}
 use Rattle.road_pieces.specs.Runs.{way_runs, run, is_junction}
-use Rattle.road_pieces.specs.Rows.{stops, spans, course, course_cm, piece_row, run_rows, way_rows, piece_rows}
+use Rattle.road_pieces.specs.Rows.{stops, spans, course, course_cm, piece_row, run_rows, way_rows}
 use Rattle.road_pieces.proofs.Members.{IsIn, IsAt, in_at, of_numbered}
 use Rattle.road_pieces.proofs.Spans.{IsSpan, stops_by, stops_are, sound}
 use Rattle.road_walks.specs.BaseEdges.{run_pieces, way_pieces}

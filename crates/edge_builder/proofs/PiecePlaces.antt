@@ -1,5 +1,5 @@
 -- The index of a piece among all pieces, and of an edge among those of its junction.
-use Rattle.std.proofs.Common.{◌≡◌, ℕ, zero, suc, ◌<◌, refl, sym, ◌∙◌, ap, List, [], ◌∷◌, filter, length, get_or, ℤ, Bool, true, false, not, inl, inr, arith}
+use Rattle.std.proofs.Common.{◌≡◌, ℕ, zero, suc, ◌<◌, refl, sym, ◌∙◌, ap, List, [], ◌∷◌, length, get_or, ℤ, Bool, true, not, inl, inr, arith}
 use Rattle.std.specs.List.{enumerate_from, position_or_len}
 use Rattle.std.specs.Ordering.{int_eq}
 use Rattle.std.proofs.lemmas.Bool.{both_ways, false_from_ne_true, or_left, or_right, or_cases}

@@ -1,6 +1,6 @@
 -- At each junction a directed piece starts.
 use Rattle.std.proofs.Common.{◌≡◌, ℕ, ◌+◌, ◌-◌, ◌<◌, ◌≤◌, refl, sym, ◌∙◌, ap, subst, List, [], ◌∷◌, map, length, get_or, ℤ, pos, Bool, true, false, cond, inl, inr, arith}
-use Rattle.std.specs.Prelude.{◌⊎◌, ◌||◌, ◌&&◌, nat_le, sum_by}
+use Rattle.std.specs.Prelude.{◌||◌, ◌&&◌, nat_le, sum_by}
 use Rattle.std.specs.List.{list_any, dedup}
 use Rattle.std.specs.Option.{option_map_or}
 use Rattle.std.specs.Ordering.{int_eq}
@@ -8,7 +8,6 @@ use Rattle.std.specs.Cmp.{signed_Decides}
 use Rattle.std.proofs.lemmas.Bool.{cases_Bool, cases_lt, or_cases, both_ways, leb-true, and_parts, cond-false}
 use Rattle.std.proofs.lemmas.List.Sums.{sum_by-cons}
 use Rattle.osm_model.specs.declared.nodes.OsmNode.{OsmNode}
-use Rattle.osm_model.specs.declared.ways.OsmWay.{OsmWay}
 use Rattle.osm_model.specs.declared.extract.Extract.{Extract}
 use Rattle.road_pieces.specs.DirectedPiece.{DirectedPiece}
 use Rattle.road_pieces.specs.Rules.{is_routable}

@@ -1,5 +1,5 @@
 -- The junctions where a directed edge starts and ends.
-use Rattle.std.proofs.Common.{◌≡◌, ℕ, ◌+◌, ◌<◌, ap, subst, List, [], ◌∷◌, length, inl, inr}
+use Rattle.std.proofs.Common.{ℕ, ◌+◌, ◌<◌, ap, subst, List, [], ◌∷◌, length, inl, inr}
 use Rattle.std.specs.Prelude.{All}
 use Rattle.std.specs.List.{enumerate_from}
 use Rattle.road_pieces.specs.declared.rows.Junction.{Junction}

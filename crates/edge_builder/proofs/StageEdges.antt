@@ -5,8 +5,6 @@ use Rattle.std.specs.Option.{option_map_or}
 use Rattle.std.specs.Ordering.{int_eq}
 use Rattle.std.specs.Cmp.{signed_Decides}
 use Rattle.std.proofs.lemmas.List.{get_or-map}
-use Rattle.fixed_geo.specs.declared.points.Point.{Point}
-use Rattle.osm_model.specs.declared.tags.Tag.{Tag}
 use Rattle.osm_model.specs.declared.nodes.OsmNode.{OsmNode}
 use Rattle.osm_model.specs.declared.extract.Extract.{Extract}
 use Rattle.tile_geometry.specs.Grid.{grid_tile}

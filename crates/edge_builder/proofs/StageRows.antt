@@ -11,7 +11,7 @@ use Rattle.road_pieces.specs.Runs.{way_runs, is_junction}
 use Rattle.road_pieces.specs.Steps.{node}
 use Rattle.road_pieces.specs.Pieces.{piece_start, piece_end}
 use Rattle.road_pieces.specs.Rows.{stops, spans, piece_rows}
-use Rattle.road_pieces.proofs.Members.{IsIn, of_numbered}
+use Rattle.road_pieces.proofs.Members.{IsIn}
 use Rattle.road_walks.specs.BaseEdges.{run_pieces, way_pieces, directed_pieces, base_edges, reverse_of}
 use Rattle.edge_builder.specs.BaseRows.{DirectedRow, both_rows, directed_rows, row_start, row_end, base_rows}
 use Rattle.edge_builder.specs.ExtractRows.{forward_pieces, piece_of_extract, piece_place}

@@ -11,7 +11,7 @@ use Rattle.road_pieces.specs.Rows.{stops}
 use Rattle.road_pieces.specs.Rules.{class_of, names_of, way_tags, way_access, node_access, node_tags, is_barrier}
 use Rattle.road_pieces.specs.Runs.{run, is_junction}
 use Rattle.road_walks.specs.BaseEdges.{directed_pieces, is_same, local_index, reverse_of}
-use Rattle.road_walks.specs.Stages.{StageNode, StageTile}
+use Rattle.road_walks.specs.Stages.{StageTile}
 use Rattle.work_tile.specs.declared.edge_rows.WorkEdge.{WorkEdge}
 use Rattle.work_tile.specs.WorkRows.{WorkNode, WorkRows}
 

@@ -13,3 +13,4 @@ mod EntryFailing
 mod PaddingFailing
 mod TextFailing
 mod Bounds
+mod TextSizes

@@ -19,4 +19,4 @@ pub use padding::read_padding;
 pub use sets::{read_infos, write_infos};
 pub use starts::{entry_starts, is_start};
 pub use texts::read_texts;
-pub use writes::{push_infos, push_texts};
+pub use writes::{push_infos, push_texts, texts_size};

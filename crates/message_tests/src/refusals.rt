@@ -1,4 +1,4 @@
-//! The lines of inputs that `build` refuses, each with its bytes. Nothing is put, and the older list stays.
+//! The lines of inputs that `build` refuses, each with its bytes. Nothing is put, and the older file stays.
 
 use program_runs::ends;
 use std::alloc::{AllocError, Global};
@@ -12,7 +12,7 @@ fn refuses<R: Threads + Sync + AllocGlobal>(
     bytes: &[u8],
     said: &str,
 ) -> Result<bool, AllocError> {
-    ends(rt, bytes, 5, "older", said)
+    ends(rt, bytes, 5, b"older", said)
 }
 
 // The length and the header of a triple.
@@ -141,8 +141,7 @@ fn block_refuses<R: Threads + Sync + AllocGlobal>(
     refuses(rt, &bytes, said)
 }
 
-// Node 7 at latitude 900,000,001. Tags that aren't built yet: barrier=gate of node 2, highway=primary of way 10,
-// type=route of relation 7.
+// Node 7 at latitude 900,000,001. What isn't built yet: highway=primary of way 10, type=restriction of relation 7.
 #[test]
 fn blocks(rt: HostRuntime) -> Result<(), Fail> {
     for (block, said) in [
@@ -151,15 +150,11 @@ fn blocks(rt: HostRuntime) -> Result<(), Fail> {
             "error 5 BadCoordinate id=7\n",
         ),
         (
-            b"\x0a\x11\x0a\x00\x0a\x07barrier\x0a\x04gate\x12\x10\x12\x0e\x0a\x01\x04\x42\x01\x00\x4a\x01\x00\x52\x03\x01\x02\x00",
-            "error 5 NotBuilt kind=node id=2\n",
-        ),
-        (
             b"\x0a\x14\x0a\x00\x0a\x07highway\x0a\x07primary\x12\x0e\x1a\x0c\x08\x0a\x12\x01\x01\x1a\x01\x02\x42\x02\x02\x02",
             "error 5 NotBuilt kind=way id=10\n",
         ),
         (
-            b"\x0a\x0f\x0a\x00\x0a\x04type\x0a\x05route\x12\x0a\x22\x08\x08\x07\x12\x01\x01\x1a\x01\x02",
+            b"\x0a\x15\x0a\x00\x0a\x04type\x0a\x0brestriction\x12\x0a\x22\x08\x08\x07\x12\x01\x01\x1a\x01\x02",
             "error 5 NotBuilt kind=relation id=7\n",
         ),
     ] {

@@ -1,10 +1,11 @@
-//! The command `build` over a host in memory: the list that it puts, its refusals and its faults.
+//! The command `build` over a host in memory: the road of docs/TILE-FILE.md, an extract without roads, and faults of the
+//! host. What stands in tiles is tried in `tile_build_tests`.
 
-use program_runs::{build_in, ends};
+use program_runs::{build_for, build_in, ends};
 use std::alloc::AllocError;
 use std::test::Fail;
 use std::thread::Threads;
-use test_support::{HEADER, extract_of, front, holds, host_of};
+use test_support::{BlockWriter, HEADER, extract_of, front, holds, host_of, road_tile};
 
 // The written bytes of nodes 1 and 2 and way 10 are those of the small extract.
 #[test]
@@ -15,61 +16,73 @@ fn writer(rt: HostRuntime) -> Result<(), Fail> {
     Ok(())
 }
 
-// Nodes 1 to 4 lie 10,000 units apart on a meridian: a segment of 10,000 units has 11,132 cm, one of 20,000 units
-// 22,264 cm. The tile of a node near 0, 0 is in row 360 and column 720: 2 + 8 * (360 * 1440 + 720) = 4152962.
+/// Whether a build of the small extract for these modes puts the tile of the road with this number of modes.
+fn builds_road<R: Threads + Sync + AllocGlobal>(
+    rt: &R,
+    modes: &str,
+    number: u8,
+) -> Result<bool, AllocError> {
+    let mut host = host_of(rt.alloc(), &front(rt.alloc(), 112)?, &[], 65_536)?;
+    let status = build_for(rt, &mut host, modes)?;
+    let tile = road_tile(rt.alloc(), number)?;
+    Ok(status == 0 && holds(&host, &tile, 1) && host.said.is_empty())
+}
+
+// Each mode may use the road, so the tiles differ in the number of modes alone.
 #[test]
-fn lists(rt: HostRuntime) -> Result<(), Fail> {
-    for (lats, lons, refs, list) in [
-        (
-            [0, 0].as_slice(),
-            [0, 10_000].as_slice(),
-            [1, 2].as_slice(),
-            "mjolnir-plain 1\nn 1 4152962\nn 2 4152962\np 10 0 0 1 2 11132\n",
-        ),
-        // node 2 stands at two places: a piece, and a loop over 3 and 4
-        (
-            [0, 10_000, 20_000, 30_000].as_slice(),
-            [0; 4].as_slice(),
-            [1, 2, 3, 4, 2].as_slice(),
-            "mjolnir-plain 1\nn 1 4152962\nn 2 4152962\np 10 0 0 1 2 11132\np 10 0 1 2 2 44528\n",
-        ),
-        // equal neighbours are taken once
-        (
-            [0, 10_000].as_slice(),
-            [0; 2].as_slice(),
-            [1, 1, 2].as_slice(),
-            "mjolnir-plain 1\nn 1 4152962\nn 2 4152962\np 10 0 0 1 2 11132\n",
-        ),
-        // and one node alone is no road
-        (
-            [0, 10_000].as_slice(),
-            [0; 2].as_slice(),
-            [1, 1].as_slice(),
-            "mjolnir-plain 1\n",
-        ),
-        // node 99 isn't there: a run of 1 and 2, and one of 3 and 4
-        (
-            [0, 10_000, 20_000, 30_000].as_slice(),
-            [0; 4].as_slice(),
-            [1, 2, 99, 3, 4].as_slice(),
-            "mjolnir-plain 1\nn 1 4152962\nn 2 4152962\nn 3 4152962\nn 4 4152962\np 10 0 0 1 2 11132\np 10 1 0 3 4 11132\n",
-        ),
-        // the longest piece; its end is in row 456: 2 + 8 * (456 * 1440 + 720) = 5258882
-        (
-            [0, 241_138_569].as_slice(),
-            [0; 2].as_slice(),
-            [1, 2].as_slice(),
-            "mjolnir-plain 1\nn 1 4152962\nn 2 5258882\np 10 0 0 1 2 268435455\n",
-        ),
+fn modes_of_a_road(rt: HostRuntime) -> Result<(), Fail> {
+    for (modes, number) in [
+        ("auto", 1),
+        ("pedestrian", 2),
+        ("bicycle", 4),
+        ("truck", 8),
+        ("bus", 64),
+        ("bus,auto", 65),
+        ("auto,pedestrian,bicycle,truck,bus", 79),
     ] {
-        let bytes = extract_of(rt.alloc(), &HEADER, lats, lons, refs)?;
-        assert!(rt; ends(&rt, &bytes, 0, list, "")?, "of {refs:?}");
+        assert!(rt; builds_road(&rt, modes, number)?, "{modes}");
     }
-    assert!(rt; ends(&rt, &HEADER, 0, "mjolnir-plain 1\n", "")?);
     Ok(())
 }
 
-/// Whether a build where these calls of the host fail ends so, with the older list.
+// Without `--modes` all of them are asked for.
+#[test]
+fn all_modes(rt: HostRuntime) -> Result<(), Fail> {
+    let bytes = front(rt.alloc(), 112)?;
+    let tile = road_tile(rt.alloc(), 79)?;
+    assert!(rt; ends(&rt, &bytes, 0, &tile, "")?);
+    Ok(())
+}
+
+// The same road from objects that are written one by one, with tags of nodes and another way that is no road.
+#[test]
+fn other_objects(rt: HostRuntime) -> Result<(), Fail> {
+    let mut objects = BlockWriter::new(rt.alloc())?;
+    objects.node(1, 0, 0, "highway=crossing;name=A")?;
+    objects.node(2, 0, 10_000, "surface=wood")?;
+    objects.way(9, "waterway=stream;name=B", &[2, 1])?;
+    objects.way(10, "surface=paved;highway=residential", &[1, 2])?;
+    objects.relation(3, "type=route;name=C")?;
+    let tile = road_tile(rt.alloc(), 79)?;
+    assert!(rt; ends(&rt, &objects.extract()?, 0, &tile, "")?);
+    Ok(())
+}
+
+// Where no road is kept no file is put: without objects, and where no asked mode may use the way.
+#[test]
+fn no_road(rt: HostRuntime) -> Result<(), Fail> {
+    assert!(rt; ends(&rt, &HEADER, 0, b"older", "")?);
+    let mut objects = BlockWriter::new(rt.alloc())?;
+    objects.nodes_in_a_row(2)?;
+    objects.way(10, "highway=footway", &[1, 2])?;
+    let mut host = host_of(rt.alloc(), &objects.extract()?, &[], 65_536)?;
+    let status = build_for(&rt, &mut host, "auto,bicycle,truck,bus")?;
+    assert_eq!(rt; (status, host.said.len()), (0, 0));
+    assert!(rt; holds(&host, b"older", 0));
+    Ok(())
+}
+
+/// Whether a build where these calls of the host fail ends so, with the older file.
 fn fails<R: Threads + Sync + AllocGlobal>(
     rt: &R,
     failing: &[u64],

@@ -11,4 +11,6 @@ mod extract_ends;
 #[cfg(test)]
 mod limits;
 #[cfg(test)]
+mod unbuilt;
+#[cfg(test)]
 mod words;

@@ -1,17 +1,34 @@
 //! The limits of an extract and of its roads, met by inputs that are made for it.
 
-use program_runs::{build_in, ends};
+use program_runs::{build_in, ends, puts_nothing};
 use std::test::Fail;
 use test_support::{
-    HEADER, data_triple, extract_of, extract_with_way, holds, host_of, put_field, put_varint,
+    BlockWriter, HEADER, data_triple, extract_of, extract_with_way, holds, host_of, put_field,
+    put_varint,
 };
 
-// A piece that is too long puts nothing, and the older list stays.
+// A piece that is too long puts nothing, and the older file stays.
 #[test]
 fn longest_piece(rt: HostRuntime) -> Result<(), Fail> {
     let long = extract_with_way(rt.alloc(), &HEADER, &[0, 241_138_570], &[0, 0], 1, &[1, 2])?;
     let said = "error 6 EdgeTooLong way=1 run=0 piece=0 cm=268435456\n";
-    assert!(rt; ends(&rt, &long, 6, "older", said)?);
+    assert!(rt; ends(&rt, &long, 6, b"older", said)?);
+    Ok(())
+}
+
+// 128 ways start at node 1000, and the last of them is too long, which is said first.
+#[test]
+fn longest_piece_before_most_edges(rt: HostRuntime) -> Result<(), Fail> {
+    let mut objects = BlockWriter::new(rt.alloc())?;
+    objects.node(1_000, 0, 0, "")?;
+    for k in 1..128u8 {
+        objects.node(i64::from(k), i64::from(k), 0, "")?;
+        objects.way(u64::from(k), "highway=residential", &[1_000, i64::from(k)])?;
+    }
+    objects.node(128, 241_138_570, 0, "")?;
+    objects.way(128, "highway=residential", &[1_000, 128])?;
+    let said = "error 6 EdgeTooLong way=128 run=0 piece=0 cm=268435456\n";
+    assert!(rt; puts_nothing(&rt, &objects, 6, said)?);
     Ok(())
 }
 

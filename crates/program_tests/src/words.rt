@@ -1,10 +1,10 @@
-//! The words of each command: which of them are refused, and that workers and modes change nothing of the list.
+//! The words of each command: which of them are refused, and that workers change nothing of what is put.
 
 use program_runs::status_of;
 use std::alloc::AllocError;
 use std::test::Fail;
 use std::thread::Threads;
-use test_support::{HEADER, file_of, front, host_of, host_with};
+use test_support::{HEADER, front, holds, host_of, host_with, road_tile};
 
 /// Whether these words are refused, with one line and no other call of the host.
 fn refuses<R: Threads + Sync + AllocGlobal>(rt: &R, words: &[&str]) -> Result<bool, AllocError> {
@@ -121,18 +121,20 @@ fn refused_options(rt: HostRuntime) -> Result<(), Fail> {
     Ok(())
 }
 
-/// Whether these words build the list of the small extract, in the folder `out`.
-fn builds<R: Threads + Sync + AllocGlobal>(rt: &R, words: &[&str]) -> Result<bool, AllocError> {
+/// Whether these words build the tile of the small extract for these modes, in the folder `out`.
+fn builds<R: Threads + Sync + AllocGlobal>(
+    rt: &R,
+    words: &[&str],
+    modes: u8,
+) -> Result<bool, AllocError> {
     let mut host = host_of(rt.alloc(), &front(rt.alloc(), 112)?, &[], 65_536)?;
-    Ok(
-        status_of(rt, words, &mut host)? == 0
-            && file_of(&host, "out/plain.lst")
-                == b"mjolnir-plain 1\nn 1 4152962\nn 2 4152962\np 10 0 0 1 2 11132\n".as_slice()
-            && host.said.len() == 0,
-    )
+    let status = status_of(rt, words, &mut host)?;
+    let tile = road_tile(rt.alloc(), modes)?;
+    Ok(status == 0 && holds(&host, &tile, 1) && host.said.is_empty())
 }
 
-// Options come in any order, with `=` or a word of their own; neither workers nor modes change the list.
+// Options come in any order, with `=` or a word of their own. Without `--modes` all are asked for, 79; workers change
+// nothing.
 #[test]
 fn options(rt: HostRuntime) -> Result<(), Fail> {
     for words in [
@@ -149,6 +151,17 @@ fn options(rt: HostRuntime) -> Result<(), Fail> {
             "--input",
             "city.osm.pbf",
         ],
+    ] {
+        assert!(rt; builds(&rt, words, 79)?, "{words:?}");
+    }
+    Ok(())
+}
+
+// The names of modes come in any order: bus is 64, auto 1, pedestrian 2.
+#[test]
+fn options_with_modes(rt: HostRuntime) -> Result<(), Fail> {
+    let two = builds(
+        &rt,
         &[
             "build",
             "--modes=bus,auto",
@@ -157,6 +170,10 @@ fn options(rt: HostRuntime) -> Result<(), Fail> {
             "--input",
             "city.osm.pbf",
         ],
+        65,
+    )?;
+    let one = builds(
+        &rt,
         &[
             "build",
             "--modes",
@@ -167,9 +184,9 @@ fn options(rt: HostRuntime) -> Result<(), Fail> {
             "--input",
             "city.osm.pbf",
         ],
-    ] {
-        assert!(rt; builds(&rt, words)?, "{words:?}");
-    }
+        2,
+    )?;
+    assert_eq!(rt; (two, one), (true, true));
     Ok(())
 }
 

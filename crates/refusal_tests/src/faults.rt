@@ -1,5 +1,5 @@
 //! One fault in the shortest data block that has it, and the line that `build` says. Where nothing is wrong the line is
-//! empty, and a list without roads is put.
+//! empty, and nothing is put.
 //!
 //! Places are counted by hand. The header has 35 bytes. A block of at most 125 bytes begins at 52: behind the length of
 //! 4 bytes, a BlobHeader of 11, and the tag and the length of the payload. An object that is the first of its group

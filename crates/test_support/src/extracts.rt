@@ -69,7 +69,7 @@ pub fn put_field(bytes: &mut Vec<u8>, tag: u8, body: &[u8]) -> Result<(), AllocE
 }
 
 /// Twice a number that isn't negative, and one less than twice the size of one that is.
-fn zigzag(number: i64) -> u64 {
+pub(crate) fn zigzag(number: i64) -> u64 {
     let twice = number.unsigned_abs().saturating_mul(2);
     if number < 0 {
         twice.saturating_sub(1)
@@ -79,7 +79,7 @@ fn zigzag(number: i64) -> u64 {
 }
 
 /// Each number as its zigzag difference from the one before it.
-fn deltas(alloc: Global, numbers: &[i64]) -> Result<Vec<u8>, AllocError> {
+pub(crate) fn deltas(alloc: Global, numbers: &[i64]) -> Result<Vec<u8>, AllocError> {
     let mut bytes = Vec::new(alloc);
     let mut last = 0i64;
     for number in numbers {

@@ -1,5 +1,6 @@
 //! Hosts in memory with an extract.
 
+use crate::tiles::word_bytes;
 use host_port::{Bytes, MemHost, Text};
 use std::alloc::{AllocError, Global};
 
@@ -19,7 +20,10 @@ pub fn host_with(
     Ok(MemHost::new(alloc, files, failing, piece))
 }
 
-/// A host with the extract `city.osm.pbf` of these bytes, an older list and another file.
+/// The path of the file of tile 519120 of level 2 in the folder `out`: the tile whose south-west corner is at (0, 0).
+pub const TILE_PATH: &str = "out/2/000/519/120.gph";
+
+/// A host with the extract `city.osm.pbf` of these bytes, an older file of tile 519120 and another file.
 pub fn host_of(
     alloc: Global,
     bytes: &[u8],
@@ -28,7 +32,7 @@ pub fn host_of(
 ) -> Result<MemHost, AllocError> {
     let mut files = Vec::new(alloc);
     for (path, bytes) in [
-        ("out/plain.lst", b"older".as_slice()),
+        (TILE_PATH, b"older".as_slice()),
         ("city.osm.pbf", bytes),
         ("out/other", b"other".as_slice()),
     ] {
@@ -49,11 +53,34 @@ pub fn file_of<'a>(host: &'a MemHost, path: &str) -> &'a [u8] {
     }
 }
 
-/// Whether the host has the three files, with this list among them and the others as they were, and whether
-/// so many paths were put.
-pub fn holds(host: &MemHost, list: &[u8], puts: usize) -> bool {
+/// Whether the host has the three files of `host_of`, with this one of tile 519120 among them and the others as they
+/// were, and whether so many paths were put.
+pub fn holds(host: &MemHost, tile: &[u8], puts: usize) -> bool {
     host.files.len() == 3
-        && file_of(host, "out/plain.lst") == list
+        && file_of(host, TILE_PATH) == tile
         && file_of(host, "out/other") == b"other".as_slice()
         && host.puts.len() == puts
+}
+
+/// Whether the file of that path has the bytes of these words.
+pub fn file_is(
+    alloc: Global,
+    host: &MemHost,
+    path: &str,
+    words: &[u64],
+) -> Result<bool, AllocError> {
+    let bytes = word_bytes(alloc, words)?;
+    Ok(file_of(host, path) == bytes.as_slice())
+}
+
+/// Whether these paths were put, in this order, and no other: they are told with a space between two.
+pub fn puts_are(alloc: Global, host: &MemHost, paths: &str) -> Result<bool, AllocError> {
+    let mut told = String::new(alloc);
+    for put in host.puts.as_slice() {
+        if !told.is_empty() {
+            told.push_str(" ")?;
+        }
+        told.push_str(put.as_str())?;
+    }
+    Ok(told.as_str() == paths)
 }

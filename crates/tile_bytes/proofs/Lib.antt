@@ -18,6 +18,7 @@ pub mod Pieces
 pub mod Answered
 pub mod SequenceLaws
 pub mod WriteLaws
+pub mod WordSums
 pub mod CheckNumbers
 pub mod HeaderChecks
 pub mod RecordChecks

@@ -13,6 +13,7 @@ mod record_sections;
 mod sequence_section;
 mod sequences;
 mod spans;
+mod tail_sizes;
 mod tile;
 mod write;
 mod write_whole;

@@ -1,5 +1,5 @@
 //! Writing a tile file.
-ghost use Rattle.std.specs.Prelude.{◌≡◌, ◌++◌, OnOk, IfOk};
+ghost use Rattle.std.specs.Prelude.{◌≡◌, ◌++◌, OnOk};
 ghost use Rattle.std.specs.List.{flat_map};
 ghost use Rattle.section_grammar.specs.WordBytes.{words_bytes};
 ghost use Rattle.edge_info.specs.Entries.{infos_bytes};
@@ -15,7 +15,7 @@ use crate::tile::Tile;
 use edge_info::{push_infos, push_texts};
 use graph_id::GraphId;
 use section_grammar::{push_record, push_word};
-use std::alloc::{AllocError, Global};
+use std::alloc::AllocError;
 use tile_records::{EdgeRec, NodeRec};
 
 /// Why a tile isn't written: a section is too large for the header, with its number of words, or of bytes for entries
@@ -35,7 +35,7 @@ impl From<AllocError> for WriteFault {
 }
 
 /// Puts nodes behind the bytes.
-pub(crate) fn push_nodes(out: &mut Vec<u8>, nodes: &[NodeRec]) -> Result<(), AllocError>
+fn push_nodes(out: &mut Vec<u8>, nodes: &[NodeRec]) -> Result<(), AllocError>
     ensures { OnOk result (out.new.items ≡ out.old.items ++ flat_map node_bytes nodes.now) }
 {
     for node in nodes {
@@ -45,7 +45,7 @@ pub(crate) fn push_nodes(out: &mut Vec<u8>, nodes: &[NodeRec]) -> Result<(), All
 }
 
 /// Puts edges behind the bytes.
-pub(crate) fn push_edges(out: &mut Vec<u8>, edges: &[EdgeRec]) -> Result<(), AllocError>
+fn push_edges(out: &mut Vec<u8>, edges: &[EdgeRec]) -> Result<(), AllocError>
     ensures { OnOk result (out.new.items ≡ out.old.items ++ flat_map edge_bytes edges.now) }
 {
     for edge in edges {
@@ -55,7 +55,7 @@ pub(crate) fn push_edges(out: &mut Vec<u8>, edges: &[EdgeRec]) -> Result<(), All
 }
 
 /// Puts GraphIds behind the bytes.
-pub(crate) fn push_ids(out: &mut Vec<u8>, ids: &[GraphId]) -> Result<(), AllocError>
+fn push_ids(out: &mut Vec<u8>, ids: &[GraphId]) -> Result<(), AllocError>
     ensures { OnOk result (out.new.items ≡ out.old.items ++ words_bytes ids.now) }
 {
     for id in ids {
@@ -73,15 +73,14 @@ fn push_chain(out: &mut Vec<u8>, ids: &[GraphId]) -> Result<(), AllocError>
     push_ids(out, ids)
 }
 
-/// The chain section.
-fn chain_section(alloc: Global, chains: &Chains) -> Result<Vec<u8>, AllocError>
-    ensures { IfOk result (λ v. v.items ≡ flat_map chain_bytes chains.now) }
+/// Puts chains behind the bytes.
+fn push_chains(out: &mut Vec<u8>, chains: &Chains) -> Result<(), AllocError>
+    ensures { OnOk result (out.new.items ≡ out.old.items ++ flat_map chain_bytes chains.now) }
 {
-    let mut out = Vec::new(alloc);
     for i in 0..chains.len() {
-        push_chain(&mut out, chains.at(i))?;
+        push_chain(out, chains.at(i))?;
     }
-    Ok(out)
+    Ok(())
 }
 
 /// Puts a sequence behind the bytes.
@@ -93,43 +92,37 @@ fn push_sequence(out: &mut Vec<u8>, edges: &[GraphId], modes: u16) -> Result<(),
     push_ids(out, edges)
 }
 
-/// The sequence section.
-fn sequence_section(alloc: Global, sequences: &Sequences) -> Result<Vec<u8>, AllocError>
-    ensures { IfOk result (λ v. v.items ≡ flat_map sequence_bytes sequences.now) }
+/// Puts sequences behind the bytes.
+fn push_sequences(out: &mut Vec<u8>, sequences: &Sequences) -> Result<(), AllocError>
+    ensures { OnOk result (out.new.items ≡ out.old.items ++ flat_map sequence_bytes sequences.now) }
 {
-    let mut out = Vec::new(alloc);
     for i in 0..sequences.len() {
-        push_sequence(&mut out, sequences.edges(i), sequences.modes(i))?;
+        push_sequence(out, sequences.edges(i), sequences.modes(i))?;
     }
-    Ok(out)
+    Ok(())
 }
 
-/// The sections whose sizes stand in the header.
-#[derive(Debug, Drop)]
-pub(crate) struct Tails {
-    pub chains: Vec<u8>,
-    pub sequences: Vec<u8>,
-    pub infos: Vec<u8>,
-    pub texts: Vec<u8>,
-}
-
-/// The sections of a tile whose sizes stand in its header.
-pub(crate) fn tails_of(alloc: Global, tile: &Tile) -> Result<Tails, AllocError>
-    ensures chains { IfOk result (λ t. t.chains.items ≡ flat_map chain_bytes tile.now.chains) }
-    ensures sequences { IfOk result (λ t. t.sequences.items ≡ flat_map sequence_bytes tile.now.sequences) }
-    ensures infos { IfOk result (λ t. t.infos.items ≡ infos_bytes tile.now.infos) }
-    ensures texts { IfOk result (λ t. t.texts.items ≡ texts_bytes tile.now.texts) }
+/// Puts the sections of records behind the bytes.
+pub(crate) fn push_records(out: &mut Vec<u8>, tile: &Tile) -> Result<(), AllocError>
+    ensures { OnOk result (out.new.items ≡ out.old.items ++ (flat_map node_bytes tile.now.nodes ++ (flat_map edge_bytes tile.now.edges ++ words_bytes tile.now.transitions))) }
 {
-    let chains = chain_section(alloc, &tile.chains)?;
-    let sequences = sequence_section(alloc, &tile.sequences)?;
-    let mut infos = Vec::new(alloc);
-    push_infos(&mut infos, &tile.infos)?;
-    let mut texts = Vec::new(alloc);
-    push_texts(&mut texts, tile.texts.as_slice())?;
-    Ok(Tails {
-        chains,
-        sequences,
-        infos,
-        texts,
-    })
+    push_nodes(out, tile.nodes.as_slice())?;
+    push_edges(out, tile.edges.as_slice())?;
+    push_ids(out, tile.transitions.as_slice())
+}
+
+/// Puts the sections of lists behind the bytes.
+pub(crate) fn push_lists(out: &mut Vec<u8>, tile: &Tile) -> Result<(), AllocError>
+    ensures { OnOk result (out.new.items ≡ out.old.items ++ (flat_map chain_bytes tile.now.chains ++ flat_map sequence_bytes tile.now.sequences)) }
+{
+    push_chains(out, &tile.chains)?;
+    push_sequences(out, &tile.sequences)
+}
+
+/// Puts the entries and the texts behind the bytes.
+pub(crate) fn push_infos_texts(out: &mut Vec<u8>, tile: &Tile) -> Result<(), AllocError>
+    ensures { OnOk result (out.new.items ≡ out.old.items ++ (infos_bytes tile.now.infos ++ texts_bytes tile.now.texts)) }
+{
+    push_infos(out, &tile.infos)?;
+    push_texts(out, tile.texts.as_slice())
 }

@@ -1,4 +1,4 @@
-//! Tests of the tile file: bit fields, sections, records, infos and whole tiles, with bytes counted by hand.
+//! Tests of the parts of a tile file: bit fields, sections, records and infos, with bytes counted by hand.
 #![tactic(auto)]
 
 #[cfg(test)]
@@ -7,7 +7,5 @@ mod infos;
 mod records;
 #[cfg(test)]
 mod sections;
-#[cfg(test)]
-mod tiles;
 #[cfg(test)]
 mod words;

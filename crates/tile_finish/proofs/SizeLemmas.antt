@@ -1,32 +1,12 @@
--- The sizes of texts, and offsets within the bytes of entries.
-use Rattle.std.proofs.Common.{◌≡◌, ◌∙◌, ℕ, zero, suc, ◌+◌, ◌<◌, ◌≤◌, true, refl, sym, ap, List, [], ◌∷◌, ◌++◌, length, get_or, take, arith, eq-eqb}
+-- Offsets within the bytes of entries.
+use Rattle.std.proofs.Common.{◌≡◌, ◌∙◌, ℕ, zero, suc, ◌+◌, ◌<◌, ◌≤◌, true, refl, ap, List, [], ◌∷◌, length, get_or, arith, eq-eqb}
 use Rattle.std.specs.Prelude.{All, nat_eq}
 use Rattle.std.proofs.lemmas.Bool.{or_left, or_right}
-use Rattle.std.proofs.lemmas.List.{length-append, take_more, take_all, append-nil}
+use Rattle.std.proofs.lemmas.List.{length-append}
 use Rattle.std.proofs.lemmas.List.Concat.{flat_map-cons}
 use Rattle.std.proofs.lemmas.List.Elements.{All-nil, All-cons}
-use Rattle.std.proofs.lemmas.Grind.{flat_map-append}
-use Rattle.section_grammar.specs.WordBytes.{half_bytes}
-use Rattle.section_grammar.proofs.WordLaws.{half_length}
 use Rattle.edge_info.specs.declared.infos.Info.{Info}
 use Rattle.edge_info.specs.Entries.{info_bytes, infos_bytes, starts_from, starts_of, starts_at}
-use Rattle.edge_info.specs.Texts.{text_bytes, texts_bytes}
-
-pub text_size : (text : List ℕ) → length (text_bytes text) ≡ 4 + length text
-unfolding text_bytes
-text_size text = omega (arith, length-append (half_bytes (length text)) text, half_length (length text))
-
--- one text more
-pub texts_next : (texts : List (List ℕ)) (k size sum : ℕ) (text : List ℕ) → k < length texts → text ≡ get_or texts k text → size ≡ length (texts_bytes (take k texts)) → sum ≡ size + length (text_bytes text) → sum ≡ length (texts_bytes (take (k + 1) texts))
-texts_next texts k size sum text inside here is step =
-    let parts : texts_bytes (take (k + 1) texts) ≡ texts_bytes (take k texts) ++ text_bytes text =
-    ap texts_bytes (take_more texts k text inside ∙ ap (λ t. take k texts ++ t ∷ []) (sym here)) ∙ flat_map-append text_bytes (take k texts) (text ∷ []) ∙ ap (λ l. texts_bytes (take k texts) ++ l) (flat_map-cons text_bytes text [] ∙ append-nil (text_bytes text)) in
-    omega (arith, step, is, ap length parts, length-append (texts_bytes (take k texts)) (text_bytes text))
-
-pub texts_whole : (texts : List (List ℕ)) (k size : ℕ) → length texts ≤ k → size ≡ length (texts_bytes (take k texts)) → size ≡ length (texts_bytes texts)
-texts_whole texts k size past is = is ∙ ap (λ l. length (texts_bytes l)) (take_all k texts past)
-
--- ---- where entries start
 
 pub starts_many : (at : ℕ) (infos : List Info) → length (starts_from at infos) ≡ length infos
 starts_many at [] = refl

@@ -1,10 +1,10 @@
 //! The sizes of the entries and the texts of a tile.
-ghost use Rattle.std.specs.Prelude.{◌≡◌, ◌<◌, ◌+◌, ◌^◌, length, IfOk, IfErr};
+ghost use Rattle.std.specs.Prelude.{◌≡◌, ◌<◌, ◌^◌, length, IfOk, IfErr};
 ghost use Rattle.edge_info.specs.Entries.{infos_bytes};
-ghost use Rattle.edge_info.specs.Texts.{text_bytes, texts_bytes};
+ghost use Rattle.edge_info.specs.Texts.{texts_bytes};
 ghost use Rattle.tile_finish.specs.Finishing.{AreShort, IsSectionFault};
 
-use edge_info::{Infos, Texts};
+use edge_info::{Infos, Texts, texts_size};
 use osm_model::TagText;
 use std::alloc::AllocError;
 use tile_bytes::WriteFault;
@@ -16,23 +16,11 @@ fn bytes_of_infos(infos: &Infos) -> Result<u64, AllocError>
     u64::try_from(infos.size()).map_err(|_| AllocError)
 }
 
-/// The number of bytes with those of one more text. Where 64 bits can't say it, no memory holds them.
-#[tactic(auto, using(crate::proofs::SizeLemmas::text_size))]
-fn with_text_bytes(size: u64, text: &TagText) -> Result<u64, AllocError>
-    ensures { IfOk result (λ sum. sum ≡ size + length (text_bytes text.now)) }
-{
-    u64::try_from(u128::from(size) + 4 + text.len() as u128).map_err(|_| AllocError)
-}
-
-/// The number of the bytes of texts.
+/// The number of the bytes of texts. Where 64 bits can't say it, no memory holds them.
 fn bytes_of_texts(texts: &[TagText]) -> Result<u64, AllocError>
     ensures { IfOk result (λ size. size ≡ length (texts_bytes texts.now)) }
 {
-    let mut size = 0;
-    for text in texts {
-        size = with_text_bytes(size, text)?;
-    }
-    Ok(size)
+    u64::try_from(texts_size(texts)).map_err(|_| AllocError)
 }
 
 /// Tells which of these numbers of bytes, of entries or else of texts, is above 4,294,967,295.

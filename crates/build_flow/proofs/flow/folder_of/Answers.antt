@@ -1,12 +1,12 @@
 use Rattle.std.proofs.Common.{◌≡◌, subst}
 use Rattle.std.specs.Prelude.{None, IfOk, IfErr, OnOk}
 use Rattle.build_flow.specs.FolderFiles.{IsFault}
-use Rattle.build_flow.proofs.Flow.{can_be_built, files_are, limit_is, cut_fails}
+use Rattle.build_flow.proofs.WholeBuild.{can_be_built, files_are, limit_is, cut_fails}
 use Rattle.build_flow.proofs.flow.folder_of.Goals as goal
 
 pub files_of_roads-requires-clause-roads : goal.files_of_roads-requires-clause-roads
 files_of_roads-requires-clause-roads c =
-    can_be_built c.args.extract c.args.modes c.requires.built c.extract_roads.ensures c.kept_are_finishable.ensures c.in-Ok.roads c.in-Ok.ensures.roads c.in-Ok.ensures.accepted
+    can_be_built c.args.extract c.args.modes c.requires.built c.extract_roads.ensures c.kept_are_finishable.ensures c.in-Ok.roads c.in-Ok.ensures.roads c.pieces_spell.ensures c.in-Ok.ensures.accepted
 
 pub returns-in-Ok-clause-files : goal.returns-in-Ok-clause-files
 returns-in-Ok-clause-files c =

@@ -6,5 +6,5 @@ push_header-requires-clause-tile c = names_it c.args.tile.now c.header_of_tile-h
 
 pub returns : goal.returns
 returns c =
-    rw (c.in_ok-push_tails.ensures, c.in_ok-push_records.ensures, c.in_ok-push_header.ensures, c.in_ok-out.ensures.items)
-    (parts_spell c.args.tile.now c.header_of_tile-header.result c.args.tails.now.chains.items c.args.tails.now.sequences.items c.args.tails.now.infos.items c.args.tails.now.texts.items c.header_of_tile-header.ensures c.requires.chains c.requires.sequences c.requires.infos c.requires.texts)
+    rw (c.in_ok-push_padding.ensures, c.in_ok-push_infos_texts.ensures, c.in_ok-push_lists.ensures, c.in_ok-push_records.ensures, c.in_ok-push_header.ensures, c.in_ok-out.ensures.items)
+    (parts_spell c.args.tile.now c.header_of_tile-header.result c.args.sizes.infos c.args.sizes.texts c.header_of_tile-header.ensures c.requires.infos c.requires.texts)

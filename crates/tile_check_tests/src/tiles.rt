@@ -231,6 +231,70 @@ fn short_files(rt: HostRuntime) -> Result<(), Fail> {
     Ok(())
 }
 
+/// A file that is too short and has another signature too: its length is looked at first.
+#[test]
+fn short_without_signature(rt: HostRuntime) -> Result<(), Fail> {
+    let bytes = with_words(rt.alloc(), &ROAD, &[(0, 0x3130_454c_4954_4a4e)])?;
+    assert_eq!(rt;
+        (
+            fault_of(rt.alloc(), cut(&bytes, 63).0),
+            fault_of(rt.alloc(), cut(&bytes, 64).0)
+        ),
+        ((1, 63), (2, 0))
+    );
+    Ok(())
+}
+
+/// Further words of the road, one for each rule that has none above: a tile past the last of its level (1,036,800), too
+/// many edges, a node to the south of the tile, with another first transition, with three transitions, and without an
+/// edge, a transition more than the header says, an edge with a spare bit, with an end on level 1, and with the invalid
+/// GraphId as its end.
+const RULE_ROWS: [((usize, u64), u8, u64); 10] = [
+    ((1, 0x7e_9002), 3, 8),
+    ((3, 0x20_0000_0000_0002), 5, 24),
+    ((9, 0xffff_ffff), 8, 64),
+    ((10, 0x2020_0000), 8, 64),
+    ((10, 0x18_0000_0020_0000), 8, 64),
+    ((14, 1), 8, 96),
+    ((14, 0x8_0000_0020_0001), 8, 128),
+    ((16, 0x4000_0000_023f_5e82), 9, 128),
+    ((16, 0x23f_5e81), 9, 128),
+    ((16, 0x3fff_ffff_ffff), 9, 128),
+];
+
+#[test]
+fn broken_rules(rt: HostRuntime) -> Result<(), Fail> {
+    for (change, check, at) in RULE_ROWS {
+        assert_eq!(rt;
+            fault_with(rt.alloc(), &ROAD, &[change])?,
+            (check, at),
+            "word {change:?}"
+        );
+    }
+    Ok(())
+}
+
+/// Further words of the tile with an item in each section: a sequence with a spare bit, and one without a mode; an
+/// entry that runs past the infos; and a padding whose third byte isn't zero.
+const SECTION_ROWS: [((usize, u64), u8, u64); 4] = [
+    ((28, 0x1_0001_0002), 12, 224),
+    ((28, 2), 12, 224),
+    ((36, 0x2710_0000_0003), 13, 272),
+    ((41, 0x1_0000_4200), 16, 332),
+];
+
+#[test]
+fn broken_items(rt: HostRuntime) -> Result<(), Fail> {
+    for (change, check, at) in SECTION_ROWS {
+        assert_eq!(rt;
+            fault_with(rt.alloc(), &FULL, &[change])?,
+            (check, at),
+            "word {change:?}"
+        );
+    }
+    Ok(())
+}
+
 /// Nothing is reserved for records that a file has no room for: its size is looked at before.
 #[test]
 fn promised_records(rt: HostRuntime) -> Result<(), Fail> {

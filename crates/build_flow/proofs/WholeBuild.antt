@@ -10,7 +10,7 @@ use Rattle.road_pieces.specs.Rows.{junction_rows, piece_rows, refusal}
 use Rattle.road_pieces.specs.RoadsOf.{RoadsOf}
 use Rattle.edge_builder.specs.BaseRows.{AreRoads}
 use Rattle.edge_builder.specs.RoadLaws.{ExtractRoads}
-use Rattle.kept_checks.specs.KeptChecks.{KeptAreFinishable}
+use Rattle.kept_checks.specs.KeptChecks.{IsSpellable, KeptAreFinishable}
 use Rattle.level_tiles.specs.LevelTiles.{KeptMakeTiles}
 use Rattle.build_flow.specs.declared.faults.FlowFault.{FlowFault}
 use Rattle.build_flow.specs.declared.faults.FlowFault.TheVariants.{Limit, OutOfMemory}
@@ -22,11 +22,11 @@ use Rattle.build_flow.proofs.ByObjects.{tiles_by_rows, limit_by_rows}
 
 module _ (x : Extract) (asked : ℕ) (built : unbuilt x ≡ None) where
   -- the roads of an extract can be built
-  pub can_be_built : ExtractRoads → KeptAreFinishable → (roads : Roads) → RoadsOf x roads → refusal (piece_rows x) ≡ None → CanBeBuilt asked roads.junctions roads.pieces
-  can_be_built extract finish roads of within =
+  pub can_be_built : ExtractRoads → KeptAreFinishable → (roads : Roads) → RoadsOf x roads → All IsSpellable roads.pieces → refusal (piece_rows x) ≡ None → CanBeBuilt asked roads.junctions roads.pieces
+  can_be_built extract finish roads of spell within =
       let rows : CanBeBuilt asked (junction_rows x) (piece_rows x) = record {
         roads = subst (λ js. AreRoads js (piece_rows x)) of.junctions (subst (AreRoads roads.junctions) of.pieces (extract x roads of within));
-        tiles = λ none room. finish x asked (built_is_local x built) within none room;
+        tiles = λ none room. finish x asked (built_is_local x built) (subst (All IsSpellable) of.pieces spell) within none room;
       } in
       subst (λ js. CanBeBuilt asked js roads.pieces) (sym of.junctions) (subst (CanBeBuilt asked (junction_rows x)) (sym of.pieces) rows)
 

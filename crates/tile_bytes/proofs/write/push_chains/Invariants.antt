@@ -1,0 +1,7 @@
+use Rattle.std.proofs.Common.{◌≡◌, ◌++◌, take}
+use Rattle.std.specs.List.{flat_map}
+use Rattle.tile_bytes.specs.Chains.{chain_bytes}
+use Rattle.tile_bytes.proofs.write.push_chains.Given as goal
+
+abbrev pub invariant-loop-i : goal.invariant-loop-i
+invariant-loop-i l = l.out.items ≡ l.fn.out.items ++ flat_map chain_bytes (take l.i l.chains)
