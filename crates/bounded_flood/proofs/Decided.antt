@@ -25,7 +25,7 @@ module _ {J : Type 0} (same : J → J → Bool) (decides : (a b : J) → same a 
         few = few;
         whole = λ x l. all_linked limit few l;
         apart = λ l. both_ways (is_seen same u seen) (not-true (is_seen same u seen) parts.1)
-          (test-from_Among same decides itself_same u seen (all_linked limit few l));
+            (test-from_Among same decides itself_same u seen (all_linked limit few l));
       }
 
   pub true-from_CutOff : (limit : ℕ) (u : J) → CutOff near limit u v → cut_off same near limit u v ≡ true
@@ -36,4 +36,4 @@ module _ {J : Type 0} (same : J → J → Bool) (decides : (a b : J) → same a 
       and_from (nat_le (length seen) limit) (not (is_seen same u seen))
       (le-leb (length seen) limit (omega (arith, c.few, no_shorter seen c.side flood.distinct (λ x a. c.whole x (flood.linked x a)))))
       (not_from_false (is_seen same u seen) (false_from_ne_true (is_seen same u seen)
-        (λ e. c.apart (flood.linked u (Occurs-from_test same decides itself_same u seen e)))))
+      (λ e. c.apart (flood.linked u (Occurs-from_test same decides itself_same u seen e)))))

@@ -24,14 +24,14 @@ module _ {J : Type 0} (same : J → J → Bool) (decides : (a b : J) → same a 
   pub seen_all-all : (seen xs : List J) (y : J) → Occurs y xs → Occurs y (seen_all same seen xs)
   seen_all-all seen [] y h = absurd h
   seen_all-all seen (x ∷ xs) y h = elim h [
-      inl e ↦
+    | inl e ↦
         subst (λ v. Occurs v (seen_all same (seen_too same seen x) xs)) e
         (seen_all-keeps same (seen_too same seen x) xs x
-          (cond_both (is_seen same x seen) seen (seen ++ x ∷ []) (λ s. Occurs x s)
-            (λ yes_it_is. Occurs-from_test same decides itself_same x seen yes_it_is)
-            (λ it_is_not. Occurs-right x seen (x ∷ []) (inl refl))))
+        (cond_both (is_seen same x seen) seen (seen ++ x ∷ []) (λ s. Occurs x s)
+        (λ yes_it_is. Occurs-from_test same decides itself_same x seen yes_it_is)
+        (λ it_is_not. Occurs-right x seen (x ∷ []) (inl refl))))
     | inr r ↦ seen_all-all (seen_too same seen x) xs y r
-    ]
+  ]
 
   module _ (near : J → List J) (v : J) where
     -- those that were seen: linked to v, each once, v one of them
@@ -46,9 +46,9 @@ module _ {J : Type 0} (same : J → J → Bool) (decides : (a b : J) → same a 
         (λ e. s)
         (λ e. record {
           linked = λ y in_it. elim (Occurs-split y seen (x ∷ []) in_it) [
-              inl a ↦ s.linked y a
+            | inl a ↦ s.linked y a
             | inr b ↦ elim b [ inl e2 ↦ subst (λ z. Linked near v z) e2 h | inr none ↦ absurd none ]
-            ];
+          ];
           distinct = Distinct-push seen x s.distinct (λ a. both_ways (is_seen same x seen) e (test-from_Among same decides itself_same x seen a));
           first = Occurs-left v seen (x ∷ []) s.first;
         })
@@ -67,21 +67,21 @@ module _ {J : Type 0} (same : J → J → Bool) (decides : (a b : J) → same a 
 
     look_none : (n : ℕ) (seen : List J) → slice_get seen n ≡ None → NeighboursSeen n seen → NeighboursSeen (suc n) seen
     look_none n seen none before = λ k x y small at h. elim (cases_eq k n) [
-        inl e ↦ absurd (none-some x (sym none ∙ subst (λ i. slice_get seen i ≡ Some x) e at))
+      | inl e ↦ absurd (none-some x (sym none ∙ subst (λ i. slice_get seen i ≡ Some x) e at))
       | inr other ↦ before k x y (omega arith) at h
-      ]
+    ]
 
     look_one : (n : ℕ) (seen : List J) (z : J) → slice_get seen n ≡ Some z → NeighboursSeen n seen → NeighboursSeen (suc n) (seen_all same seen (near z))
     look_one n seen z here before = λ k x y small at h.
         let inside : n < length seen = slice_get_within seen n z here in
         let front = seen_all-front same seen (near z) in
         let was : slice_get seen k ≡ Some x =
-          sym (get-left seen front.0 k (omega arith)) ∙ subst (λ s. slice_get s k ≡ Some x) front.1 at in
+        sym (get-left seen front.0 k (omega arith)) ∙ subst (λ s. slice_get s k ≡ Some x) front.1 at in
         elim (cases_eq k n) [
-          inl e ↦
-            let is : z ≡ x = same_Some z x (sym here ∙ subst (λ i. slice_get seen i ≡ Some x) e was) in
-            seen_all-all seen (near z) y (subst (λ w. Occurs y (near w)) (sym is) h)
-        | inr other ↦ seen_all-keeps same seen (near z) y (before k x y (omega arith) was h)
+          | inl e ↦
+              let is : z ≡ x = same_Some z x (sym here ∙ subst (λ i. slice_get seen i ≡ Some x) e was) in
+              seen_all-all seen (near z) y (subst (λ w. Occurs y (near w)) (sym is) h)
+          | inr other ↦ seen_all-keeps same seen (near z) y (before k x y (omega arith) was h)
         ]
 
     turn : (n : ℕ) (seen : List J) (o : Option J) → slice_get seen n ≡ o → Seen seen → NeighboursSeen n seen

@@ -25,9 +25,10 @@ module _ {J : Type 0} (same : J → J → Bool) (near : J → List J) (v : J) wh
   spread-front m (suc d) zero e = absurd (omega arith)
   spread-front m (suc d) (suc n) e =
       let before = spread-front m d n (omega arith) in
-      let last = seen_all-front same (spread same near v n) (near_of near (slice_get (spread same near v n) n)) in
-      (before.0 ++ last.0,
-        spread-next n ∙ last.1 ∙ ap (λ s. s ++ last.0) before.1 ∙ append_assoc (spread same near v m) before.0 last.0)
+      let last = seen_all-front same (spread same near v n) (near_of near (slice_get (spread same near v n) n)) in (
+        before.0 ++ last.0,
+        spread-next n ∙ last.1 ∙ ap (λ s. s ++ last.0) before.1 ∙ append_assoc (spread same near v m) before.0 last.0,
+      )
 
   pub spread-stays : (m d n : ℕ) → m + d ≡ n → length (spread same near v m) ≤ m → spread same near v n ≡ spread same near v m
   spread-stays m zero n e few = let is : n ≡ m = omega arith in ap (λ k. spread same near v k) is
@@ -44,7 +45,7 @@ module _ {J : Type 0} (same : J → J → Bool) (near : J → List J) (v : J) wh
       let front = spread-front n d limit e in
       and_left (nat_le (length (spread same near v limit)) limit) (not (is_seen same u (spread same near v limit)))
       (lt-leb (length (spread same near v limit)) limit
-        (omega (arith, ap length front.1, length-append (spread same near v n) front.0)))
+      (omega (arith, ap length front.1, length-append (spread same near v n) front.0)))
 
   pub cut_off-when_met : (limit d n : ℕ) (u : J) → n + d ≡ limit → is_seen same u (spread same near v n) ≡ true → cut_off same near limit u v ≡ false
   unfolding cut_off
@@ -52,9 +53,9 @@ module _ {J : Type 0} (same : J → J → Bool) (near : J → List J) (v : J) wh
       let front = spread-front n d limit e in
       and_right (nat_le (length (spread same near v limit)) limit) (not (is_seen same u (spread same near v limit)))
       (not_from_true (is_seen same u (spread same near v limit))
-        (ap (λ s. is_seen same u s) front.1
-        ∙ list_any-append (λ y. same y u) (spread same near v n) front.0
-        ∙ or_left (is_seen same u (spread same near v n)) (is_seen same u front.0) met))
+      (ap (λ s. is_seen same u s) front.1
+      ∙ list_any-append (λ y. same y u) (spread same near v n) front.0
+      ∙ or_left (is_seen same u (spread same near v n)) (is_seen same u front.0) met))
 
   pub cut_off-when_ended : (limit d n : ℕ) (u : J) → n + d ≡ limit → length (spread same near v n) ≤ n → cut_off same near limit u v ≡ not (is_seen same u (spread same near v n))
   unfolding cut_off
