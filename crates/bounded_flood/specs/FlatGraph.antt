@@ -16,12 +16,16 @@ ends_without left (l ∷ ls) = if l.piece == left then ends_without left ls else
 abbrev pub near_without : List ℕ → List Link → ℕ → ℕ → List ℕ
 near_without starts links left x = ends_without left (links_from starts links x)
 
--- the lists are of one graph, which has a junction less than there are starts: starts never fall, none lies past the links,
--- and each link ends at a junction
-pub record ListsFit (starts : List ℕ) (links : List Link) : Type 0 where
+-- starts never fall, and none is above `most`
+pub record StartsRise (starts : List ℕ) (most : ℕ) : Type 0 where
   pub rise : (x : ℕ) → x + 1 < length starts → slice_index_or starts x 0 ≤ slice_index_or starts (x + 1) 0
-  pub within : (x : ℕ) → x < length starts → slice_index_or starts x 0 ≤ length links
-  pub ends : All (λ l. l.end + 1 < length starts) links
+  pub within : (x : ℕ) → x < length starts → slice_index_or starts x 0 ≤ most
+
+-- the lists are of one graph, which has a junction less than there are starts: starts rise and none lies past the links, and
+-- each link ends at a junction
+pub record ListsFit (starts : List ℕ) (links : List Link) : Type 0 where
+  pub starts_in : StartsRise starts (length links)
+  pub ends_in : All (λ l. l.end + 1 < length starts) links
 
 -- how many junctions may lie behind a piece
 abbrev pub side_limit : ℕ

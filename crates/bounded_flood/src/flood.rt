@@ -73,6 +73,13 @@ impl FloodMarks {
         })
     }
 
+    /// The number of junctions.
+    pub fn junctions(&self) -> usize
+        ensures { result ≡ self.now }
+    {
+        self.marks.len()
+    }
+
     /// Whether few junctions lie behind a piece from `u` to `v`: without the piece `left`, at most 63 junctions are linked
     /// to `v`, itself among them, and `u` isn't one of them.
     pub fn is_cut_off(&mut self, starts: &[u32], links: &[Link], left: u32, u: u32, v: u32) -> bool
