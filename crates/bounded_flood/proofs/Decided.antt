@@ -1,10 +1,10 @@
 -- the computation decides the relation
-use Rattle.std.proofs.Common.{◌≡◌, ℕ, zero, suc, ◌+◌, ◌<◌, ◌≤◌, Bool, true, false, cond, Option, Some, None, List, [], ◌∷◌, ◌++◌, length, refl, sym, ap, ◌∙◌, subst, inl, inr, arith}
-use Rattle.std.specs.Prelude.{◌⊎◌, slice_get, nat_le, not, ◌&&◌}
+use Rattle.std.proofs.Common.{◌≡◌, ℕ, ◌≤◌, Bool, true, List, length, arith}
+use Rattle.std.specs.Prelude.{nat_le, not}
 use Rattle.std.proofs.lemmas.Bool.{and_parts, and_from, not-true, not_from_false, leb-true, le-leb, both_ways, false_from_ne_true}
 use Rattle.bounded_flood.specs.Flood.{Occurs, Linked, to_itself, by_link, CutOff, is_seen, spread, cut_off}
 use Rattle.bounded_flood.proofs.Members.{Occurs-place, Occurs-from_test, test-from_Among, no_shorter}
-use Rattle.bounded_flood.proofs.Spreads.{NeighboursSeen, Flooded, flooded}
+use Rattle.bounded_flood.proofs.Spreads.{flooded}
 
 module _ {J : Type 0} (same : J → J → Bool) (decides : (a b : J) → same a b ≡ true → a ≡ b) (itself_same : (a : J) → same a a ≡ true) (near : J → List J) (v : J) where
   -- where no more were seen than looked at, they are all that are linked

@@ -1,5 +1,5 @@
 -- what a flood over a graph in flat lists tells when it stops
-use Rattle.std.proofs.Common.{◌≡◌, ℕ, suc, ◌+◌, ◌-◌, ◌<◌, ◌≤◌, Bool, true, false, Some, List, [], ◌∷◌, length, refl, sym, ap, ◌∙◌, arith}
+use Rattle.std.proofs.Common.{◌≡◌, ℕ, suc, ◌-◌, ◌<◌, ◌≤◌, Bool, true, false, Some, List, length, refl, sym, ap, ◌∙◌, arith}
 use Rattle.std.specs.Prelude.{nat_eq, slice_get, not}
 use Rattle.bounded_flood.specs.Flood.{is_seen, seen_all, near_of, spread, cut_off}
 use Rattle.bounded_flood.proofs.Stages.{spread-next, cut_off-when_full, cut_off-when_met, cut_off-when_ended}

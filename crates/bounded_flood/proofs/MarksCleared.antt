@@ -1,8 +1,8 @@
 -- marks that are taken back one after the other
-use Rattle.std.proofs.Common.{◌≡◌, ℕ, ◌+◌, ◌<◌, ◌≤◌, ◌==◌, Bool, true, false, List, [], ◌∷◌, length, drop, set, get_or, refl, sym, ap, ◌∙◌, subst, inl, inr, arith}
+use Rattle.std.proofs.Common.{◌≡◌, ℕ, ◌+◌, ◌<◌, ◌==◌, Bool, true, false, List, [], ◌∷◌, length, drop, set, get_or, sym, ap, ◌∙◌, inl, inr, arith}
 use Rattle.std.specs.Prelude.{nat_eq, slice_index_or}
 use Rattle.std.proofs.lemmas.Bool.{or_cases, eqb-true, cases_eq, false_from_ne_true}
-use Rattle.std.proofs.lemmas.List.{drop_more, drop_all, get_or-set_same, get_or-set_other, length-set}
+use Rattle.std.proofs.lemmas.List.{drop_more, get_or-set_same, get_or-set_other, length-set}
 use Rattle.bounded_flood.specs.Flood.{is_seen}
 use Rattle.bounded_flood.specs.FlatGraph.{MarksShow}
 
