@@ -1,6 +1,6 @@
 //! Marks of the junctions that a flood has seen.
 
-ghost use Rattle.std.specs.Prelude.{◌≡◌, ◌<◌, ◌≤◌, ℕ, true, false, nat_eq, List, length, All, replicate, IfOk, ◌++◌, ◌∷◌, []};
+ghost use Rattle.std.specs.Prelude.{◌≡◌, ◌<◌, ◌≤◌, true, false, nat_eq, length, All, replicate, IfOk, ◌++◌, ◌∷◌, []};
 ghost use Rattle.bounded_flood.specs.Flood.{seen_all};
 ghost use Rattle.bounded_flood.specs.FlatGraph.{MarksShow, ends_without, side_limit};
 
