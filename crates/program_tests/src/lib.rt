@@ -7,10 +7,6 @@ mod blobs;
 #[cfg(test)]
 mod builds;
 #[cfg(test)]
-mod extract_ends;
-#[cfg(test)]
 mod limits;
-#[cfg(test)]
-mod unbuilt;
 #[cfg(test)]
 mod words;
