@@ -49,13 +49,13 @@ piece_of_extract x p = record {
 abbrev pub node_tile : Extract → ℕ → ℤ → ℕ
 node_tile x k n = grid_tile k (point x.nodes n)
 
--- the row of an edge; which turns are forbidden isn't told yet
-abbrev pub edge_of_extract : Extract → DirectedPiece → WorkEdge
-edge_of_extract x p = record {
+-- the row of an edge of a level; which turns are forbidden isn't told yet
+abbrev pub edge_of_extract : Extract → ℕ → DirectedPiece → WorkEdge
+edge_of_extract x k p = record {
   key = record { key = record { way = p.way; run = p.run; piece = piece_number x p }; forward = p.forward };
   place = piece_place x p;
   end = piece_end x p;
-  end_tile = node_tile x 2 (piece_end x p);
+  end_tile = node_tile x k (piece_end x p);
   cm = piece_cm x p;
   local = local_index x p;
   forward_access = way_access x p.way p.forward;
@@ -65,16 +65,16 @@ edge_of_extract x p = record {
   flagged = false;
 }
 
--- the row of a node with these edges
-abbrev pub node_of_extract : Extract → ℤ → List DirectedPiece → WorkNode
-node_of_extract x n edges = record {
+-- the row of a node of a level with these edges
+abbrev pub node_of_extract : Extract → ℕ → ℤ → List DirectedPiece → WorkNode
+node_of_extract x k n edges = record {
   osm = n;
   at = point x.nodes n;
   access = node_access (node_tags x n);
   barrier = is_barrier (node_tags x n);
-  edges = map (edge_of_extract x) edges;
+  edges = map (edge_of_extract x k) edges;
 }
 
 -- the rows of a tile of a stage
 abbrev pub rows_of_stage : Extract → StageTile → WorkRows
-rows_of_stage x t = record { level = t.level; tile = t.tile; nodes = map (λ n. node_of_extract x n.osm n.edges) t.nodes }
+rows_of_stage x t = record { level = t.level; tile = t.tile; nodes = map (λ n. node_of_extract x t.level n.osm n.edges) t.nodes }
