@@ -1,6 +1,6 @@
 -- What is built of an extract is made of its objects alone: its nodes, ways and relations.
 use Rattle.std.proofs.Common.{◌≡◌, ℕ, ℤ, refl, sym, ap, ◌∙◌, List, map, Bool}
-use Rattle.std.specs.Prelude.{pos, ◌||◌, ◌&&◌, nat_le, filter, sum_by, None, Option}
+use Rattle.std.specs.Prelude.{pos, ◌||◌, ◌&&◌, nat_le, filter, sum_by}
 use Rattle.std.specs.List.{list_any, flat_map, enumerate_from, slice_index_or}
 use Rattle.std.specs.Option.{option_or}
 use Rattle.osm_model.specs.declared.nodes.OsmNode.{OsmNode}
@@ -13,12 +13,10 @@ use Rattle.road_pieces.specs.Runs.{way_runs, is_end, times, has_barrier}
 use Rattle.road_pieces.specs.Rows.{junction_row, junction_rows, stops, spans, course, course_cm, piece_rows, refusal}
 use Rattle.edge_builder.specs.BaseRows.{crowded}
 use Rattle.tile_bytes.specs.declared.tile.Tile.{Tile}
-use Rattle.level_tiles.specs.LevelTiles.{KeptMakeTiles}
+use Rattle.level_tiles.specs.LevelTiles.{LiftedMakeTiles}
 use Rattle.build_flow.specs.declared.faults.LimitFault.{LimitFault}
-use Rattle.build_flow.specs.Unbuilt.{first_main_road, first_restriction, way_or_relation, unbuilt}
 use Rattle.build_flow.specs.FolderFiles.{built_tiles, tile_file, some_limit, limit_of_cut, limit_of_base, tiles_limit, tiles_of_roads, limit_of_roads, limit_passed}
 use Rattle.build_flow.specs.BuildLaws.{SameObjects, BuildsByObjects}
-use Rattle.build_flow.proofs.Local.{built_is_local}
 
 -- ---- the rows, by nodes and ways
 
@@ -61,29 +59,25 @@ same_pieces x y same = pieces_are x ∙ ((λ i. pieces_by (same.nodes i) (same.w
 same_junctions : (x y : Extract) → SameObjects x y → junction_rows x ≡ junction_rows y
 same_junctions x y same = junctions_are x ∙ ((λ i. junctions_by (same.nodes i) (same.ways i)) ∙ sym (junctions_are y))
 
-same_unbuilt : (x y : Extract) → SameObjects x y → unbuilt x ≡ unbuilt y
-same_unbuilt x y same = λ i. way_or_relation (first_main_road (same.ways i)) (first_restriction (same.relations i))
-
 -- ---- what is built
 
-module _ (make : KeptMakeTiles) where
+module _ (make : LiftedMakeTiles) where
   -- the tiles of the folder are those of the rows
-  pub tiles_by_rows : (x : Extract) (asked : ℕ) → unbuilt x ≡ None → built_tiles x asked ≡ tiles_of_roads asked (junction_rows x) (piece_rows x)
-  tiles_by_rows x asked built = sym (make x asked (built_is_local x built))
+  pub tiles_by_rows : (x : Extract) (asked : ℕ) → built_tiles x asked ≡ tiles_of_roads asked (junction_rows x) (piece_rows x)
+  tiles_by_rows x asked = sym (make x asked)
 
-  same_tiles : (x y : Extract) (asked : ℕ) → SameObjects x y → unbuilt x ≡ None → built_tiles x asked ≡ built_tiles y asked
-  same_tiles x y asked same built =
-      tiles_by_rows x asked built ∙ (λ i. tiles_of_roads asked (same_junctions x y same i) (same_pieces x y same i))
-      ∙ sym (tiles_by_rows y asked (sym (same_unbuilt x y same) ∙ built))
+  same_tiles : (x y : Extract) (asked : ℕ) → SameObjects x y → built_tiles x asked ≡ built_tiles y asked
+  same_tiles x y asked same =
+      tiles_by_rows x asked ∙ (λ i. tiles_of_roads asked (same_junctions x y same i) (same_pieces x y same i)) ∙ sym (tiles_by_rows y asked)
 
   -- the limit that an extract passes is that of its rows
-  pub limit_by_rows : (x : Extract) (asked : ℕ) → unbuilt x ≡ None → limit_passed x asked ≡ option_or (some_limit limit_of_cut (refusal (piece_rows x))) (limit_of_roads asked (junction_rows x) (piece_rows x))
-  limit_by_rows x asked built =
-      ap (λ tiles. option_or (some_limit limit_of_cut (refusal (piece_rows x))) (option_or (some_limit limit_of_base (crowded (junction_rows x) (piece_rows x))) (tiles_limit tiles))) (tiles_by_rows x asked built)
+  pub limit_by_rows : (x : Extract) (asked : ℕ) → limit_passed x asked ≡ option_or (some_limit limit_of_cut (refusal (piece_rows x))) (limit_of_roads asked (junction_rows x) (piece_rows x))
+  limit_by_rows x asked =
+      ap (λ tiles. option_or (some_limit limit_of_cut (refusal (piece_rows x))) (option_or (some_limit limit_of_base (crowded (junction_rows x) (piece_rows x))) (tiles_limit tiles))) (tiles_by_rows x asked)
 
   pub built_by_objects : BuildsByObjects
-  built_by_objects x y asked same built = record {
-    files = ap (map tile_file) (same_tiles x y asked same built);
+  built_by_objects x y asked same = record {
+    files = ap (map tile_file) (same_tiles x y asked same);
     limits = λ i. option_or (some_limit limit_of_cut (refusal (same_pieces x y same i)))
-        (option_or (some_limit limit_of_base (crowded (same_junctions x y same i) (same_pieces x y same i))) (tiles_limit (same_tiles x y asked same built i)));
+        (option_or (some_limit limit_of_base (crowded (same_junctions x y same i) (same_pieces x y same i))) (tiles_limit (same_tiles x y asked same i)));
   }

@@ -16,7 +16,7 @@ use Rattle.folder_spec.proofs.TilesLow.{tiles_low}
 use Rattle.tile_numbers.specs.declared.room.TileFull.{TileFull as FullTile}
 use Rattle.tile_numbers.specs.Limits.{first_fullness}
 use Rattle.build_flow.specs.declared.faults.LimitFault.{LimitFault}
-use Rattle.build_flow.specs.FolderFiles.{first_given, too_full, too_long_section, some_limit, limit_of_base, tiles_limit, kept_of_roads, tiles_of_roads, limit_of_roads}
+use Rattle.build_flow.specs.FolderFiles.{first_given, too_full, too_long_section, some_limit, limit_of_base, tiles_limit, kept_of_roads, lifted_of_roads, tiles_of_roads, limit_of_roads}
 use Rattle.build_flow.proofs.Full.{IsLowTile, limit_of_full, first_full_is}
 
 -- ---- the tiles of roads have numbers that fit
@@ -48,21 +48,21 @@ module _ (asked : ℕ) (js : List Junction) (ps : List Piece) where
       by true rest = All-cons IsLowTile (kept_rows asked (base_tile js ps c)) _ (record { level = omega arith; tile = All-head IsLowNumber c cs low }) rest
       by false rest = rest
 
-  tiles_are_low : All IsLowTile (kept_of_roads asked js ps)
+  tiles_are_low : All IsLowTile (lifted_of_roads asked js ps)
   tiles_are_low = low_kept (rising nat_lt (map junction_tile js)) (low_rising js)
 
   -- ---- what is passed
 
-  full_is : first_given too_full (tiles_of_roads asked js ps) ≡ option_map limit_of_full (first_fullness (kept_of_roads asked js ps))
-  full_is = first_full_is asked ps (kept_of_roads asked js ps) (kept_of_roads asked js ps) tiles_are_low
+  full_is : first_given too_full (tiles_of_roads asked js ps) ≡ option_map limit_of_full (first_fullness (lifted_of_roads asked js ps))
+  full_is = first_full_is asked ps (lifted_of_roads asked js ps) (lifted_of_roads asked js ps) tiles_are_low
 
   not_crowded : crowded js ps ≡ None → limit_of_roads asked js ps ≡ tiles_limit (tiles_of_roads asked js ps)
   not_crowded none = ap (λ o. option_or (some_limit limit_of_base o) (tiles_limit (tiles_of_roads asked js ps))) none
 
-  pub full_passed : (full : FullTile) → crowded js ps ≡ None → first_fullness (kept_of_roads asked js ps) ≡ Some full → limit_of_roads asked js ps ≡ Some (limit_of_full full)
+  pub full_passed : (full : FullTile) → crowded js ps ≡ None → first_fullness (lifted_of_roads asked js ps) ≡ Some full → limit_of_roads asked js ps ≡ Some (limit_of_full full)
   full_passed full none first =
       not_crowded none ∙ ap (λ o. option_or o (first_given too_long_section (tiles_of_roads asked js ps))) (full_is ∙ ap (option_map limit_of_full) first)
 
-  pub none_full : crowded js ps ≡ None → first_fullness (kept_of_roads asked js ps) ≡ None → limit_of_roads asked js ps ≡ first_given too_long_section (tiles_of_roads asked js ps)
+  pub none_full : crowded js ps ≡ None → first_fullness (lifted_of_roads asked js ps) ≡ None → limit_of_roads asked js ps ≡ first_given too_long_section (tiles_of_roads asked js ps)
   none_full none first =
       not_crowded none ∙ ap (λ o. option_or o (first_given too_long_section (tiles_of_roads asked js ps))) (full_is ∙ ap (option_map limit_of_full) first)

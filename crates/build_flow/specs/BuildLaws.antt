@@ -33,4 +33,4 @@ pub record SameBuild (x y : Extract) (asked : ℕ) : Type 0 where
 
 -- the law of objects: a folder is made of the objects alone
 abbrev pub BuildsByObjects : Type 0
-BuildsByObjects = (x y : Extract) (asked : ℕ) → SameObjects x y → unbuilt x ≡ None → SameBuild x y asked
+BuildsByObjects = (x y : Extract) (asked : ℕ) → SameObjects x y → SameBuild x y asked

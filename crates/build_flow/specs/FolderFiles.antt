@@ -14,6 +14,7 @@ use Rattle.edge_builder.specs.declared.faults.BaseFault.TheVariants as base_faul
 use Rattle.edge_builder.specs.BaseRows.{AreRoads, crowded}
 use Rattle.edge_builder.specs.BaseTiles.{base_tiles_of}
 use Rattle.access_filter.specs.Kept.{kept_tiles}
+use Rattle.hierarchy.specs.Lifted.{lifted_tiles}
 use Rattle.tile_numbers.specs.declared.room.TheConstants.{MOST_RECORDS}
 use Rattle.tile_numbers.specs.declared.room.What.TheVariants as kinds
 use Rattle.tile_numbers.specs.Limits.{HasRoom}
@@ -90,16 +91,19 @@ IsFault passed OutOfMemory = Unit {0}
 
 -- ---- the tiles that roads make, stage by stage
 
--- the base tiles of roads, and what is kept of them
+-- the base tiles of roads; what is kept of them; and that on its levels
 abbrev pub kept_of_roads : ℕ → List Junction → List Piece → List WorkRows
 kept_of_roads asked junctions pieces = kept_tiles asked (base_tiles_of junctions pieces)
+
+abbrev pub lifted_of_roads : ℕ → List Junction → List Piece → List WorkRows
+lifted_of_roads asked junctions pieces = lifted_tiles (kept_of_roads asked junctions pieces)
 
 -- the tiles that they make
 abbrev pub finished_tiles : ℕ → List Piece → List WorkRows → List Tile
 finished_tiles asked pieces tiles = map (finished_tile asked pieces tiles) tiles
 
 abbrev pub tiles_of_roads : ℕ → List Junction → List Piece → List Tile
-tiles_of_roads asked junctions pieces = finished_tiles asked pieces (kept_of_roads asked junctions pieces)
+tiles_of_roads asked junctions pieces = finished_tiles asked pieces (lifted_of_roads asked junctions pieces)
 
 -- the first limit that roads pass behind those of pieces
 abbrev pub limit_of_roads : ℕ → List Junction → List Piece → Option LimitFault
@@ -108,4 +112,4 @@ limit_of_roads asked junctions pieces = option_or (some_limit limit_of_base (cro
 -- roads whose tiles can be finished, where they pass no limit
 pub record CanBeBuilt (asked : ℕ) (junctions : List Junction) (pieces : List Piece) : Type 0 where
   pub roads : AreRoads junctions pieces
-  pub tiles : crowded junctions pieces ≡ None → All HasRoom (kept_of_roads asked junctions pieces) → AreFinishable (kept_of_roads asked junctions pieces) pieces
+  pub tiles : crowded junctions pieces ≡ None → All HasRoom (lifted_of_roads asked junctions pieces) → AreFinishable (lifted_of_roads asked junctions pieces) pieces

@@ -8,15 +8,16 @@ ghost use Rattle.road_pieces.specs.RoadsOf.{RoadsOf};
 ghost use Rattle.edge_builder.specs.declared.faults.BaseFault.{BaseFault};
 ghost use Rattle.edge_builder.specs.BaseRows.{AreRoads, crowded};
 ghost use Rattle.build_flow.specs.Unbuilt.{unbuilt};
-ghost use Rattle.build_flow.specs.FolderFiles.{tile_file, folder_files, kept_of_roads, tiles_of_roads, limit_of_roads, limit_passed, CanBeBuilt, IsFault};
+ghost use Rattle.build_flow.specs.FolderFiles.{tile_file, folder_files, lifted_of_roads, tiles_of_roads, limit_of_roads, limit_passed, CanBeBuilt, IsFault};
 
 use crate::faults::FlowFault;
 use crate::files::files_of;
 use access_filter::keep;
+use hierarchy::lift;
 use edge_builder::{BaseFault, base_tiles, extract_roads};
 use host_port::HostFiles;
-use kept_checks::{kept_are_finishable, pieces_spell};
-use level_tiles::kept_make_tiles;
+use kept_checks::{lifted_are_finishable, pieces_spell};
+use level_tiles::lifted_make_tiles;
 use osm_model::Extract;
 use road_pieces::{CutFault, Roads, cut};
 use std::alloc::Global;
@@ -38,8 +39,8 @@ pub fn folder_of(alloc: Global, extract: Extract, modes: u16) -> Result<HostFile
     ensures refused { IfErr result (λ fault. IsFault (limit_passed extract modes) fault) }
 {
     extract_roads();
-    kept_are_finishable();
-    kept_make_tiles();
+    lifted_are_finishable();
+    lifted_make_tiles();
     match roads_of(alloc, extract) {
         Ok(roads) => {
             pieces_spell(&roads.pieces);
@@ -66,7 +67,7 @@ fn files_of_roads(alloc: Global, roads: &Roads, modes: u16) -> Result<HostFiles,
     ensures accepted { OnOk result (limit_of_roads modes roads.now.junctions roads.now.pieces ≡ None) }
     ensures refused { IfErr result (λ fault. IsFault (limit_of_roads modes roads.now.junctions roads.now.pieces) fault) }
 {
-    match kept_of(alloc, roads, modes) {
+    match lifted_of(alloc, roads, modes) {
         Ok(tiles) => match first_full(&tiles) {
             Some(full) => Err(FlowFault::from(full)),
             None => files_of(alloc, &roads.pieces, &tiles, modes),
@@ -75,15 +76,18 @@ fn files_of_roads(alloc: Global, roads: &Roads, modes: u16) -> Result<HostFiles,
     }
 }
 
-/// The base tiles of roads, and what is kept of them.
-fn kept_of(alloc: Global, roads: &Roads, modes: u16) -> Result<Vec<WorkTile>, BaseFault>
+/// The base tiles of roads, and on its levels what is kept of them.
+fn lifted_of(alloc: Global, roads: &Roads, modes: u16) -> Result<Vec<WorkTile>, BaseFault>
     requires { AreRoads roads.now.junctions roads.now.pieces }
-    ensures tiles { IfOk result (λ tiles. tiles.items ≡ kept_of_roads modes roads.now.junctions roads.now.pieces) }
+    ensures tiles { IfOk result (λ tiles. tiles.items ≡ lifted_of_roads modes roads.now.junctions roads.now.pieces) }
     ensures accepted { OnOk result (crowded roads.now.junctions roads.now.pieces ≡ None) }
     ensures refused { IfErr result (λ fault. (fault ≡ BaseFault.OutOfMemory) ⊎ (crowded roads.now.junctions roads.now.pieces ≡ Some fault)) }
 {
     match base_tiles(alloc, roads) {
-        Ok(tiles) => Ok(keep(alloc, tiles, modes)?),
+        Ok(tiles) => {
+            let kept = keep(alloc, tiles, modes)?;
+            Ok(lift(alloc, kept)?)
+        }
         Err(fault) => Err(fault),
     }
 }

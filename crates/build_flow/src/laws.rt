@@ -3,7 +3,7 @@
 ghost use Rattle.build_flow.specs.BuildLaws.{BuiltWalks, BuildsByObjects};
 
 use folder_spec::{folder_walks_agree, roads_from_lists};
-use level_tiles::kept_make_tiles;
+use level_tiles::lifted_make_tiles;
 
 /// For each extract whose objects are all built, each mode, each two nodes and each length, there is a road walk exactly
 /// where there is a walk over the graph of the tiles.
@@ -18,5 +18,5 @@ pub fn built_walks()
 pub fn builds_by_objects()
     ensures { BuildsByObjects }
 {
-    kept_make_tiles();
+    lifted_make_tiles();
 }

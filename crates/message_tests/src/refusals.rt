@@ -141,17 +141,13 @@ fn block_refuses<R: Threads + Sync + AllocGlobal>(
     refuses(rt, &bytes, said)
 }
 
-// Node 7 at latitude 900,000,001. What isn't built yet: highway=primary of way 10, type=restriction of relation 7.
+// Node 7 at latitude 900,000,001. What isn't built yet: type=restriction of relation 7.
 #[test]
 fn blocks(rt: HostRuntime) -> Result<(), Fail> {
     for (block, said) in [
         (
             b"\x0a\x02\x0a\x00\x12\x0f\x12\x0d\x0a\x01\x0e\x42\x05\x82\xa4\xa7\xda\x06\x4a\x01\x00".as_slice(),
             "error 5 BadCoordinate id=7\n",
-        ),
-        (
-            b"\x0a\x14\x0a\x00\x0a\x07highway\x0a\x07primary\x12\x0e\x1a\x0c\x08\x0a\x12\x01\x01\x1a\x01\x02\x42\x02\x02\x02",
-            "error 5 NotBuilt kind=way id=10\n",
         ),
         (
             b"\x0a\x15\x0a\x00\x0a\x04type\x0a\x0brestriction\x12\x0a\x22\x08\x08\x07\x12\x01\x01\x1a\x01\x02",

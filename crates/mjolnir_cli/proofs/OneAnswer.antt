@@ -91,7 +91,7 @@ is_read Read is = refl
 is_read Words is = absurd cc
 is_read Put is = absurd cc
 is_read (failures.Extract fault) is = absurd cc
-is_read (NotBuilt kind id) is = absurd cc
+is_read (NotBuilt id) is = absurd cc
 is_read (Limit limit) is = absurd cc
 is_read OutOfMemory is = absurd cc
 

@@ -4,14 +4,13 @@ use Rattle.pbf_blobs.specs.declared.blob.Blob.{Blob}
 use Rattle.pbf_blobs.specs.declared.fault.PbfFault.{PbfFault}
 use Rattle.pbf_blobs.specs.Next.{Outcome, Ends, Fails}
 use Rattle.pbf_blobs.specs.Frames.{Frames, IsLast}
-use Rattle.osm_model.specs.declared.relations.MemberKind.{MemberKind}
 use Rattle.osm_model.specs.declared.extract.Extract.{Extract}
 use Rattle.osm_objects.specs.Objects.{Objects}
 use Rattle.osm_blocks.specs.declared.fault.ExtractFault.{ExtractFault}
 use Rattle.osm_blocks.specs.Faults.{framed_as}
 use Rattle.osm_blocks.specs.Extracts.{Refuses, Reading, Extracted, Refused, IsReading, lists_of}
 use Rattle.build_flow.specs.declared.faults.LimitFault.{LimitFault}
-use Rattle.build_flow.specs.Unbuilt.{first_main_road, first_restriction, way_or_relation, unbuilt}
+use Rattle.build_flow.specs.Unbuilt.{first_restriction, unbuilt}
 use Rattle.build_flow.specs.FolderFiles.{limit_passed}
 use Rattle.build_flow.specs.BuildLaws.{SameObjects, BuildsByObjects}
 use Rattle.mjolnir_cli.specs.declared.answer.Answer.{Answer}
@@ -58,7 +57,7 @@ lists_so path bytes (Err (failures.Extract fault)) is = stopped is.0 is.1 is.2 (
 lists_so path bytes (Err Words) is = absurd is
 lists_so path bytes (Err Read) is = absurd is
 lists_so path bytes (Err Put) is = absurd is
-lists_so path bytes (Err (NotBuilt kind id)) is = absurd is
+lists_so path bytes (Err (NotBuilt id)) is = absurd is
 lists_so path bytes (Err (Limit limit)) is = absurd is
 lists_so path bytes (Err OutOfMemory) is = absurd is
 
@@ -78,15 +77,15 @@ listed_once bytes one other way (stopped a fault f is) (stopped b more g also) =
 -- ---- build
 
 -- the end for an extract: by the first object that isn't built, if there is one, and the limit that its roads pass
-abbrev end_by : Option (MemberKind × ℤ) → Option LimitFault → List (List ℕ × List ℕ) → Result Answer Failure
-end_by (Some object) limit files = Err (NotBuilt object.0 object.1)
+abbrev end_by : Option ℤ → Option LimitFault → List (List ℕ × List ℕ) → Result Answer Failure
+end_by (Some object) limit files = Err (NotBuilt object)
 end_by None (Some limit) files = Err (Limit limit)
 end_by None None files = Ok (record { files = files; text = [] })
 
 abbrev end_of : List ℕ → ℕ → Extract → Result Answer Failure
 end_of output modes x = end_by (unbuilt x) (limit_passed x modes) (output_files output modes x)
 
-end_is : (output : List ℕ) (modes : ℕ) (x : Extract) (object : Option (MemberKind × ℤ)) (limit : Option LimitFault) → unbuilt x ≡ object → limit_passed x modes ≡ limit → end_of output modes x ≡ end_by object limit (output_files output modes x)
+end_is : (output : List ℕ) (modes : ℕ) (x : Extract) (object : Option ℤ) (limit : Option LimitFault) → unbuilt x ≡ object → limit_passed x modes ≡ limit → end_of output modes x ≡ end_by object limit (output_files output modes x)
 end_is output modes x object limit first passed =
     ap (λ o. end_by o (limit_passed x modes) (output_files output modes x)) first ∙ ap (λ l. end_by object l (output_files output modes x)) passed
 
@@ -99,20 +98,18 @@ same_objects x y same = record {
 }
 
 same_unbuilt : (x y : Extract) → SameObjects x y → unbuilt x ≡ unbuilt y
-same_unbuilt x y same =
-    ap (λ ways. way_or_relation (first_main_road ways) (first_restriction x.relations)) same.ways
-    ∙ ap (λ relations. way_or_relation (first_main_road y.ways) (first_restriction relations)) same.relations
+same_unbuilt x y same = ap first_restriction same.relations
 
 -- extracts of the same objects end in the same way
 same_end : BuildsByObjects → (output : List ℕ) (modes : ℕ) (x y : Extract) → SameObjects x y → end_of output modes x ≡ end_of output modes y
 same_end law output modes x y same = by (unbuilt x) refl
   where
-    by : (object : Option (MemberKind × ℤ)) → unbuilt x ≡ object → end_of output modes x ≡ end_of output modes y
+    by : (object : Option ℤ) → unbuilt x ≡ object → end_of output modes x ≡ end_of output modes y
     by (Some object) first =
         end_is output modes x (Some object) (limit_passed x modes) first refl
         ∙ sym (end_is output modes y (Some object) (limit_passed y modes) (sym (same_unbuilt x y same) ∙ first) refl)
     by None built =
-        let build = law x y modes same built in
+        let build = law x y modes same in
         end_is output modes x None (limit_passed x modes) built refl
         ∙ ap (λ limit. end_by None limit (output_files output modes x)) build.limits
         ∙ ap (λ files. end_by None (limit_passed y modes) (map (file_in output) files)) build.files
@@ -127,8 +124,8 @@ builds_so : (options : BuildOptions) (bytes : List ℕ) (end : Result Answer Fai
 builds_so options bytes (Ok answer) is =
     of_extract is.extract is.spelled (ap Ok (answer_is answer (output_files options.output options.modes is.extract) [] is.files is.silent) ∙ sym (end_is options.output options.modes is.extract None None is.built is.within))
 builds_so options bytes (Err (failures.Extract fault)) is = of_fault fault is refl
-builds_so options bytes (Err (NotBuilt kind id)) is =
-    of_extract is.extract is.spelled (sym (end_is options.output options.modes is.extract (Some (kind, id)) (limit_passed is.extract options.modes) is.first refl))
+builds_so options bytes (Err (NotBuilt id)) is =
+    of_extract is.extract is.spelled (sym (end_is options.output options.modes is.extract (Some id) (limit_passed is.extract options.modes) is.first refl))
 builds_so options bytes (Err (Limit limit)) is =
     of_extract is.extract is.spelled (sym (end_is options.output options.modes is.extract None (Some limit) is.built is.passed))
 builds_so options bytes (Err Words) is = absurd is

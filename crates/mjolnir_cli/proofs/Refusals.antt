@@ -18,7 +18,7 @@ blobs_refusals bytes (failures.Extract fault) stops = ap is_of_bytes stops.3 ∙
 blobs_refusals bytes failures.Words stops = absurd stops
 blobs_refusals bytes failures.Read stops = absurd stops
 blobs_refusals bytes failures.Put stops = absurd stops
-blobs_refusals bytes (failures.NotBuilt kind id) stops = tt
+blobs_refusals bytes (failures.NotBuilt id) stops = tt
 blobs_refusals bytes (failures.Limit limit) stops = tt
 blobs_refusals bytes failures.OutOfMemory stops = absurd stops
 
@@ -27,7 +27,7 @@ build_refusals law modes bytes (failures.Extract fault) refuses = law bytes faul
 build_refusals law modes bytes failures.Words refuses = absurd refuses
 build_refusals law modes bytes failures.Read refuses = absurd refuses
 build_refusals law modes bytes failures.Put refuses = absurd refuses
-build_refusals law modes bytes (failures.NotBuilt kind id) refuses = tt
+build_refusals law modes bytes (failures.NotBuilt id) refuses = tt
 build_refusals law modes bytes (failures.Limit limit) refuses = tt
 build_refusals law modes bytes failures.OutOfMemory refuses = absurd refuses
 

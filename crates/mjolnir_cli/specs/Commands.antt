@@ -90,6 +90,6 @@ HasItsInput (Some command) told = IsSome (named (input_of command) told)
 -- yet, or a limit that is passed.
 abbrev pub NamesInput : Failure → Type 0
 NamesInput (Extract fault) = is_of_bytes fault ≡ true
-NamesInput (NotBuilt kind id) = ⊤
+NamesInput (NotBuilt id) = ⊤
 NamesInput (Limit limit) = ⊤
 NamesInput other = ⊥

@@ -7,7 +7,7 @@ use Rattle.pbf_blobs.specs.declared.fault.PbfFault.{PbfFault}
 use Rattle.osm_blocks.specs.declared.fault.ExtractFault.{ExtractFault}
 use Rattle.osm_blocks.specs.declared.fault.ExtractFault.TheVariants as faults
 use Rattle.osm_blocks.specs.Faults.{framed_as}
-use Rattle.osm_blocks.specs.FaultLines.{kind_name, extract_fault_line}
+use Rattle.osm_blocks.specs.FaultLines.{extract_fault_line}
 use Rattle.build_flow.specs.declared.faults.FlowFault.{FlowFault}
 use Rattle.build_flow.specs.declared.faults.FlowFault.TheVariants as flow_faults
 use Rattle.build_flow.specs.LimitLines.{limit_line}
@@ -30,7 +30,7 @@ cause_of Words = OfWords
 cause_of Read = OfReading
 cause_of Put = OfPutting
 cause_of (Extract fault) = OfBytes
-cause_of (NotBuilt kind id) = OfBytes
+cause_of (NotBuilt id) = OfBytes
 cause_of (Limit limit) = OfLimits
 cause_of OutOfMemory = OfMemory
 
@@ -53,7 +53,7 @@ text_of Words = codes "error 2 words"
 text_of Read = codes "error 3 read"
 text_of Put = codes "error 4 put"
 text_of (Extract fault) = codes "error 5 " ++ extract_fault_line fault
-text_of (NotBuilt kind id) = codes "error 5 NotBuilt kind=" ++ (kind_name kind ++ (codes " id=" ++ signed_decimal id))
+text_of (NotBuilt id) = codes "error 5 NotBuilt kind=relation id=" ++ signed_decimal id
 text_of (Limit limit) = codes "error 6 " ++ limit_line limit
 text_of OutOfMemory = codes "error 7 memory"
 

@@ -82,7 +82,7 @@ fn tiles_of_extract(
     ensures refused { IfErr result (λ failure. IsOfExtract modes failure extract) }
 {
     match first_unbuilt(&extract) {
-        Some((kind, id)) => Err(Failure::NotBuilt { kind, id }),
+        Some(id) => Err(Failure::NotBuilt { id }),
         None => match folder_of(alloc, extract, modes) {
             Ok(files) => answer_with(alloc, output, files),
             Err(fault) => Err(Failure::from(fault)),

@@ -3,15 +3,13 @@
 ghost use Rattle.std.specs.Prelude.{◌≡◌, ◌++◌, map, codes, pos, neg_ℤ, Some, IfOk, OnOk};
 ghost use Rattle.mjolnir_cli.specs.Failures.{status_of, text_of, line_of, printable, of_host, of_put, of_pbf, of_extract, of_flow};
 ghost use Rattle.osm_blocks.specs.declared.fault.ExtractFault.TheVariants.{Truncated};
-ghost use Rattle.osm_model.specs.declared.relations.MemberKind.TheVariants.{Way, Relation};
 ghost use Rattle.tile_numbers.specs.declared.room.What.TheVariants.{Nodes};
 ghost use Rattle.build_flow.specs.declared.faults.LimitFault.TheVariants.{Pieces, EdgeTooLong, TooManyEdges, TileFull, Section};
 ghost use Rattle.mjolnir_cli.specs.declared.failure.Failure.TheVariants.{Words, Read, Put, Extract, NotBuilt, Limit, OutOfMemory};
 
 use build_flow::{FlowFault, LimitFault};
 use host_port::HostFault;
-use osm_blocks::{ExtractFault, kind_name};
-use osm_model::MemberKind;
+use osm_blocks::ExtractFault;
 use pbf_blobs::PbfFault;
 use std::alloc::{AllocError, Global};
 use std::fmt;
@@ -27,9 +25,8 @@ pub enum Failure {
     Put,
     /// The input has this fault. A fault of reading and want of memory stand as variants of their own.
     Extract { fault: ExtractFault },
-    /// An object of the extract isn't built yet: the first road of a class above local roads by id, or else the
-    /// first turn restriction.
-    NotBuilt { kind: MemberKind, id: i64 },
+    /// A relation of the extract isn't built yet: the first turn restriction by id.
+    NotBuilt { id: i64 },
     /// The roads pass this limit, the first that they pass.
     Limit { limit: LimitFault },
     /// There was no memory.
@@ -102,9 +99,7 @@ impl fmt::Display for Failure {
             Failure::Read => write!(f, "error 3 read"),
             Failure::Put => write!(f, "error 4 put"),
             Failure::Extract { fault } => write!(f, "error 5 {fault}"),
-            Failure::NotBuilt { kind, id } => {
-                write!(f, "error 5 NotBuilt kind={} id={id}", kind_name(*kind))
-            }
+            Failure::NotBuilt { id } => write!(f, "error 5 NotBuilt kind=relation id={id}"),
             Failure::Limit { limit } => write!(f, "error 6 {limit}"),
             Failure::OutOfMemory => write!(f, "error 7 memory"),
         }
@@ -117,8 +112,7 @@ pub fn failure_lines()
     ensures read { text_of Read ≡ codes "error 3 read" }
     ensures put { text_of Put ≡ codes "error 4 put" }
     ensures extract { text_of (Extract (Truncated 17)) ≡ codes "error 5 Truncated at=17" }
-    ensures way_not_built { text_of (NotBuilt Way (neg_ℤ (pos 7))) ≡ codes "error 5 NotBuilt kind=way id=-7" }
-    ensures relation_not_built { text_of (NotBuilt Relation (pos 7)) ≡ codes "error 5 NotBuilt kind=relation id=7" }
+    ensures not_built { text_of (NotBuilt (neg_ℤ (pos 7))) ≡ codes "error 5 NotBuilt kind=relation id=-7" }
     ensures pieces { text_of (Limit (Pieces 4_000_001)) ≡ codes "error 6 Pieces count=4000001" }
     ensures edge_too_long { text_of (Limit (EdgeTooLong (pos 10) 0 0 268_435_456)) ≡ codes "error 6 EdgeTooLong way=10 run=0 piece=0 cm=268435456" }
     ensures too_many_edges { text_of (Limit (TooManyEdges (pos 1000) 128)) ≡ codes "error 6 TooManyEdges node=1000 count=128" }

@@ -1,5 +1,4 @@
-//! Objects that aren't built yet: roads of a class below 5, from motorway to tertiary road, and turn restrictions. The
-//! first way by id is named, or else the first relation.
+//! Objects that aren't built yet: turn restrictions. The first relation by id is named.
 
 use program_runs::{ends, puts_nothing};
 use std::alloc::{AllocError, Global};
@@ -52,48 +51,22 @@ fn highway_says<R: Threads + Sync + AllocGlobal>(
     says_of(rt, &text, said)
 }
 
+// Roads of every class, and values that make no road.
 #[test]
-fn main_roads(rt: HostRuntime) -> Result<(), Fail> {
+fn roads_are_built(rt: HostRuntime) -> Result<(), Fail> {
     for value in [
         "motorway",
         "motorway_link",
-        "trunk",
         "trunk_link",
         "primary",
-        "primary_link",
-        "secondary",
         "secondary_link",
         "tertiary",
-        "tertiary_link",
-    ] {
-        assert!(rt;
-            highway_says(&rt, value, "error 5 NotBuilt kind=way id=7\n")?,
-            "{value}"
-        );
-    }
-    Ok(())
-}
-
-// Roads of the classes 5 to 7, and values that make no road.
-#[test]
-fn other_roads(rt: HostRuntime) -> Result<(), Fail> {
-    for value in [
         "unclassified",
         "residential",
-        "living_street",
         "service",
-        "road",
-        "track",
-        "path",
-        "cycleway",
-        "footway",
-        "pedestrian",
         "steps",
-        "bridleway",
         "construction",
-        "unclassified_link",
         "Motorway",
-        "motorway ",
         "",
     ] {
         assert!(rt; highway_says(&rt, value, "")?, "{value}");
@@ -104,17 +77,7 @@ fn other_roads(rt: HostRuntime) -> Result<(), Fail> {
 #[test]
 fn tags_that_count(rt: HostRuntime) -> Result<(), Fail> {
     for (objects, said) in [
-        // the first value of a key counts, and an area is no road
-        (
-            "way 7 highway=primary;highway=residential",
-            "error 5 NotBuilt kind=way id=7\n",
-        ),
-        ("way 7 highway=residential;highway=primary", ""),
-        ("way 7 highway=primary;area=yes", ""),
-        (
-            "way 7 highway=primary;area=no;access=no",
-            "error 5 NotBuilt kind=way id=7\n",
-        ),
+        // the first value of a key counts
         (
             "relation 7 type=restriction;type=route",
             "error 5 NotBuilt kind=relation id=7\n",
@@ -123,7 +86,7 @@ fn tags_that_count(rt: HostRuntime) -> Result<(), Fail> {
         ("relation 7 type=restriction:hgv", ""),
         ("relation 7 restriction=no_left_turn", ""),
         ("relation 7 highway=motorway;type=multipolygon", ""),
-        ("way 7 type=restriction;highway=residential", ""),
+        ("way 7 type=restriction;highway=primary", ""),
         ("node 7 highway=motorway;type=restriction", ""),
         ("node 7 barrier=gate;access=no", ""),
     ] {
@@ -132,18 +95,10 @@ fn tags_that_count(rt: HostRuntime) -> Result<(), Fail> {
     Ok(())
 }
 
-// Ways and relations may come in any order of id.
+// Relations may come in any order of id, and ways before or behind them.
 #[test]
 fn the_first_object(rt: HostRuntime) -> Result<(), Fail> {
     for (objects, said) in [
-        (
-            "way 7 highway=primary,way 3 highway=trunk",
-            "error 5 NotBuilt kind=way id=3\n",
-        ),
-        (
-            "way 3 highway=residential,way 7 highway=trunk,way 8 highway=trunk",
-            "error 5 NotBuilt kind=way id=7\n",
-        ),
         (
             "relation 7 type=restriction,relation 3 type=restriction",
             "error 5 NotBuilt kind=relation id=3\n",
@@ -153,11 +108,7 @@ fn the_first_object(rt: HostRuntime) -> Result<(), Fail> {
             "error 5 NotBuilt kind=relation id=7\n",
         ),
         (
-            "relation 3 type=restriction,way 7 highway=tertiary",
-            "error 5 NotBuilt kind=way id=7\n",
-        ),
-        (
-            "relation 7 type=restriction,way 3 highway=service",
+            "relation 7 type=restriction,way 3 highway=tertiary",
             "error 5 NotBuilt kind=relation id=7\n",
         ),
         (
@@ -184,38 +135,37 @@ fn says_with<R: Threads + Sync + AllocGlobal>(
 }
 
 // Every other fault of an extract comes first: an id that comes twice, and a later block without a table. The block of
-// way 7 has a table of 2 + 2 + 9 + 9 bytes and a group of 2 + 2 + 10, so 36; its triple ends at 35 + 4 + 11 + 2 + 36 = 88,
-// and the next block begins at 88 + 4 + 11 + 2 = 105.
+// relation 7 has a table of 2 + 2 + 6 + 13 bytes and a group of 2 + 2 + 8, so 35; its triple ends at
+// 35 + 4 + 11 + 2 + 35 = 87, and the next block begins at 87 + 4 + 11 + 2 = 104.
 #[test]
 fn other_faults_come_first(rt: HostRuntime) -> Result<(), Fail> {
     assert!(rt;
         says_of(
             &rt,
-            "way 7 highway=primary,way 7 highway=primary",
+            "relation 7 type=restriction,way 7 highway=primary,way 7 highway=primary",
             "error 5 DuplicateId kind=way id=7\n"
         )?
     );
     assert!(rt;
         says_of(
             &rt,
-            "relation 2 type=route,way 7 highway=primary,relation 2 type=restriction",
+            "relation 2 type=route,relation 1 type=restriction,relation 2 type=restriction",
             "error 5 DuplicateId kind=relation id=2\n"
         )?
     );
-    let way = objects_of(rt.alloc(), "way 7 highway=primary")?;
+    let relation = objects_of(rt.alloc(), "relation 7 type=restriction")?;
     assert!(rt;
         says_with(
             &rt,
-            &way,
+            &relation,
             b"\x08\x00",
-            "error 5 MissingField at=105 number=1\n"
+            "error 5 MissingField at=104 number=1\n"
         )?
     );
     Ok(())
 }
 
-// Way 1 is residential and too long, between nodes at 0 and 241,138,570 units; way 2 isn't built yet, and neither is
-// relation 2.
+// Way 1 is residential and too long, between nodes at 0 and 241,138,570 units; relation 2 isn't built yet.
 #[test]
 fn limits_come_last(rt: HostRuntime) -> Result<(), Fail> {
     let mut objects = BlockWriter::new(rt.alloc())?;
@@ -224,7 +174,5 @@ fn limits_come_last(rt: HostRuntime) -> Result<(), Fail> {
     objects.way(1, "highway=residential", &[1, 2])?;
     objects.relation(2, "type=restriction")?;
     assert!(rt; puts_nothing(&rt, &objects, 5, "error 5 NotBuilt kind=relation id=2\n")?);
-    objects.way(2, "highway=secondary", &[])?;
-    assert!(rt; puts_nothing(&rt, &objects, 5, "error 5 NotBuilt kind=way id=2\n")?);
     Ok(())
 }

@@ -2,7 +2,6 @@
 use Rattle.std.specs.Prelude.{◌≡◌, ◌⊎◌, ℕ, ℤ, List, [], ◌∷◌, ◌++◌, map, Some, None}
 use Rattle.host_port.specs.Told.{Told}
 use Rattle.osm_model.specs.declared.extract.Extract.{Extract}
-use Rattle.osm_model.specs.declared.relations.MemberKind.{MemberKind}
 use Rattle.osm_blocks.specs.Extracts.{Reads, Refuses, lists_of}
 use Rattle.build_flow.specs.declared.faults.LimitFault.{LimitFault}
 use Rattle.build_flow.specs.Unbuilt.{unbuilt}
@@ -43,10 +42,10 @@ pub record IsBuilt (output : List ℕ) (modes : ℕ) (bytes : List ℕ) (answer 
 -- ---- its refusal
 
 -- The bytes are an extract, and this is its first object that isn't built yet.
-pub record HasUnbuilt (bytes : List ℕ) (kind : MemberKind) (id : ℤ) : Type 0 where
+pub record HasUnbuilt (bytes : List ℕ) (id : ℤ) : Type 0 where
   pub extract : Extract
   pub spelled : Spells bytes extract
-  pub first : unbuilt extract ≡ Some (kind, id)
+  pub first : unbuilt extract ≡ Some id
 
 -- The bytes are an extract whose objects are all built, and this is the first limit that its roads pass.
 pub record PassesLimit (modes : ℕ) (bytes : List ℕ) (limit : LimitFault) : Type 0 where
@@ -58,16 +57,15 @@ pub record PassesLimit (modes : ℕ) (bytes : List ℕ) (limit : LimitFault) : T
 -- The bytes are refused with a fault, or an object isn't built yet, or a limit is passed.
 abbrev pub IsBuildRefused : ℕ → List ℕ → Failure → Type 0
 IsBuildRefused modes bytes (ExtractFails fault) = Refuses bytes fault
-IsBuildRefused modes bytes (NotBuilt kind id) = HasUnbuilt bytes kind id
+IsBuildRefused modes bytes (NotBuilt id) = HasUnbuilt bytes id
 IsBuildRefused modes bytes (Limit limit) = PassesLimit modes bytes limit
 IsBuildRefused modes bytes other = ⊥
 
 -- what a failure of an extract is: want of memory, an object that isn't built yet, or the limit that its roads pass
 pub record IsUnbuilt (failure : Failure) (x : Extract) : Type 0 where
-  pub kind : MemberKind
   pub id : ℤ
-  pub first : unbuilt x ≡ Some (kind, id)
-  pub is : failure ≡ NotBuilt kind id
+  pub first : unbuilt x ≡ Some id
+  pub is : failure ≡ NotBuilt id
 
 pub record IsPassed (modes : ℕ) (failure : Failure) (x : Extract) : Type 0 where
   pub built : unbuilt x ≡ None

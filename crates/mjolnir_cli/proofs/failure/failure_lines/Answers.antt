@@ -18,13 +18,9 @@ pub returns-clause-extract : goal.returns-clause-extract
 unfolding digits
 returns-clause-extract c = refl
 
-pub returns-clause-way_not_built : goal.returns-clause-way_not_built
+pub returns-clause-not_built : goal.returns-clause-not_built
 unfolding digits
-returns-clause-way_not_built c = refl
-
-pub returns-clause-relation_not_built : goal.returns-clause-relation_not_built
-unfolding digits
-returns-clause-relation_not_built c = refl
+returns-clause-not_built c = refl
 
 pub returns-clause-pieces : goal.returns-clause-pieces
 unfolding digits
