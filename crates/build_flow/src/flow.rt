@@ -13,8 +13,8 @@ ghost use Rattle.build_flow.specs.FolderFiles.{tile_file, folder_files, lifted_o
 use crate::faults::FlowFault;
 use crate::files::files_of;
 use access_filter::keep;
-use hierarchy::lift;
 use edge_builder::{BaseFault, base_tiles, extract_roads};
+use hierarchy::lift;
 use host_port::HostFiles;
 use kept_checks::{lifted_are_finishable, pieces_spell};
 use level_tiles::lifted_make_tiles;
