@@ -1,5 +1,5 @@
 //! The other nodes of a junction.
-ghost use Rattle.std.specs.Prelude.{◌≡◌, ◌≤◌, ◌++◌, ◌∷◌, [], length, IfSome, IfNone, OnOk};
+ghost use Rattle.std.specs.Prelude.{◌≡◌, ◌<◌, ◌≤◌, ◌++◌, ◌∷◌, [], IfSome, IfNone, OnOk};
 ghost use Rattle.work_tile.specs.Places.{place_numbers};
 ghost use Rattle.tile_numbers.specs.LookUps.{node_in, node_on_level, node_on_other, other_nodes};
 ghost use Rattle.tile_numbers.specs.Limits.{IsRecordedNode, CanBeNumbered, TilesCanBeNumbered};
