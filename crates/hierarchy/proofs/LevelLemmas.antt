@@ -10,6 +10,7 @@ use Rattle.std.proofs.lemmas.List.Sums.{sum_by-append}
 use Rattle.std.proofs.lemmas.List.Elements.{filter-append}
 use Rattle.std.proofs.lemmas.List.Sorted.{IsPermutation-map, IsPermutation-sym, Contains-permutation, sum_by-IsPermutation}
 use Rattle.std.proofs.lemmas.Simd.{map-map}
+use Rattle.road_pieces.specs.Among.{Once}
 use Rattle.road_pieces.proofs.Members.{IsIn, in_map, of_map, in_flat, of_flat, at_in, in_from_contains, contains_from_in}
 use Rattle.road_walks.specs.Orders.{not_none, rising}
 use Rattle.road_walks.proofs.Locals.{in_filter}
@@ -21,7 +22,7 @@ use Rattle.hierarchy.specs.Spots.{OwnNodes, PlacedNode, placed_from, placed_node
 use Rattle.hierarchy.proofs.RunLemmas.{map_in, filter_all, filter_none}
 use Rattle.hierarchy.proofs.OwnOrder.{NeverFalls, ascends, times, times_cons, once_of_times, times_of_once, rising_is}
 
-abbrev osm_of : WorkNode → ℤ
+abbrev pub osm_of : WorkNode → ℤ
 osm_of n = n.osm
 
 abbrev placed_osm : PlacedNode → ℤ
@@ -119,6 +120,13 @@ module _ (k : ℕ) where
       let (is, some) = of_filter (λ t. not_none (lifted_nodes k t)) tiles t there in
       let (m, node) = of_some (lifted_nodes k t) some in
       (record { tile = tile_over k t.tile; node = m }, (in_flat (λ t. placed_from k t.tile t.nodes) tiles t (record { tile = tile_over k t.tile; node = m }) is (in_map (λ m. record { tile = tile_over k t.tile; node = m }) (lifted_nodes k t) m node), e))
+
+-- no id stands twice among the nodes of a tile of the level
+pub lifted_once : (k : ℕ) (tiles : List WorkRows) → OwnNodes tiles → (c : ℕ) → Once (map osm_of (flat_map (lifted_nodes k) (tiles_under k c tiles)))
+lifted_once k tiles own c =
+    subst (λ l. Once (map osm_of l)) (under_is k c tiles)
+    (once_of_times osm_of (nodes_under (placed_nodes k tiles) c)
+    (λ n. omega (arith, times_under k n c (placed_nodes k tiles), times_placed k n tiles, times_of_once osm_of (flat_map (λ t. t.nodes) tiles) own.once n)))
 
 -- ---- nodes in order
 

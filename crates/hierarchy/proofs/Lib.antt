@@ -2,5 +2,5 @@ mod EdgesPut
 mod SpotLemmas
 mod RunLemmas
 pub mod OwnOrder
-mod LevelLemmas
+pub mod LevelLemmas
 mod SortedSpots
