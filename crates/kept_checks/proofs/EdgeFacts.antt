@@ -1,6 +1,6 @@
 -- What holds of each edge and each node of the tiles of an extract.
 use Rattle.std.proofs.Common.{◌≡◌, ◌∙◌, ℕ, suc, ◌+◌, ◌*◌, ◌<◌, ◌≤◌, Bool, true, false, cond, not, ◌&&◌, refl, ap, List, [], ◌∷◌, length, map, ℤ, pos, negsuc, Option, Some, None, find, inl, inr, arith, eq-eqb}
-use Rattle.std.specs.Prelude.{All, ◌==◌, ◌≤ℤ◌, int_lt, nat_le, nat_lt, nat_eq, unwrap_or, option_map}
+use Rattle.std.specs.Prelude.{◌==◌, ◌≤ℤ◌, int_lt, nat_le, nat_lt, unwrap_or, option_map}
 use Rattle.std.specs.List.{position_or_len}
 use Rattle.std.specs.Option.{option_and_then}
 use Rattle.std.proofs.lemmas.Int.{ints}

@@ -1,7 +1,6 @@
 -- The tiles of the folder, as work rows, can be numbered and finished.
-use Rattle.std.proofs.Common.{◌≡◌, ◌∙◌, ℕ, zero, suc, ◌+◌, ◌*◌, ◌^◌, ◌<◌, ◌≤◌, Bool, true, false, cond, refl, sym, ap, subst, List, [], ◌∷◌, ◌++◌, length, get_or, map, filter, ℤ, pos, negsuc, inl, inr, arith, eqb-true}
+use Rattle.std.proofs.Common.{◌≡◌, ◌∙◌, ℕ, zero, suc, ◌+◌, ◌^◌, ◌<◌, ◌≤◌, Bool, true, false, cond, refl, sym, ap, subst, List, [], ◌∷◌, ◌++◌, length, get_or, map, filter, ℤ, pos, negsuc, inl, inr, arith}
 use Rattle.std.specs.Prelude.{All, AllPairs, ◌<ℤ◌, ⊤, ◌&&◌, int_lt, nat_lt, nat_eq}
-use Rattle.std.specs.List.{flat_map}
 use Rattle.std.specs.Ordering.{int_eq}
 use Rattle.std.proofs.lemmas.Int.{ints}
 use Rattle.std.proofs.lemmas.Bool.{ltb-true, both_ways}
@@ -11,9 +10,9 @@ use Rattle.osm_model.specs.declared.extract.Extract.{Extract}
 use Rattle.tile_geometry.specs.Grid.{tile_count, class_level}
 use Rattle.road_pieces.specs.DirectedPiece.{DirectedPiece}
 use Rattle.road_pieces.specs.Lengths.{point}
-use Rattle.road_pieces.specs.Pieces.{IsPiece, piece_start}
+use Rattle.road_pieces.specs.Pieces.{piece_start}
 use Rattle.road_pieces.specs.Rows.{piece_rows}
-use Rattle.road_pieces.proofs.Members.{IsIn, in_at, in_map, of_append, of_flat, of_map}
+use Rattle.road_pieces.proofs.Members.{IsIn, in_at, of_append, of_flat, of_map}
 use Rattle.road_walks.specs.BaseEdges.{directed_pieces, base_edges}
 use Rattle.road_walks.proofs.Sorted.{Sorted, of_rising, rising_sorted, numbers_connected, nodes_connected, below_self, below_on, node_never, node_on}
 use Rattle.folder_spec.specs.Links.{Link, base_link}
@@ -29,7 +28,7 @@ use Rattle.tile_numbers.specs.Records.{edges_of_rows}
 use Rattle.tile_number_laws.specs.NumberedChecks.{IsInTile}
 use Rattle.tile_finish.specs.FinishedTiles.{CanBeFinished, AreFinishable}
 use Rattle.kept_rows.specs.KeptRows.{IsPlainTable, open_numbers, open_table, rows_of_table}
-use Rattle.level_tiles.proofs.RecordTable.{levels, level_listed, starting, tile_of_level, of_kept, of_starting, in_starting, rows_are, row_on, row_starts, links_of_row}
+use Rattle.level_tiles.proofs.RecordTable.{levels, starting, tile_of_level, of_starting, in_starting, rows_are, row_on, row_starts, links_of_row}
 use Rattle.kept_checks.specs.KeptChecks.{IsSpellable}
 use Rattle.kept_checks.proofs.KeyOrder.{keys_rise}
 use Rattle.kept_checks.proofs.PieceEntries.{placed_at, entries_there}

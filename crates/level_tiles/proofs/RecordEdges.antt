@@ -1,6 +1,6 @@
 -- The edge records of the work tiles of a table without turn restrictions and shortcuts are those of the folder, with the
 -- offsets that the folder tells.
-use Rattle.std.proofs.Common.{◌≡◌, ℕ, ◌+◌, refl, sym, ◌∙◌, ap, subst, List, [], ◌∷◌, ◌++◌, map, ℤ, Bool, false, arith}
+use Rattle.std.proofs.Common.{◌≡◌, ℕ, ◌+◌, refl, sym, ◌∙◌, ap, subst, List, [], ◌∷◌, ◌++◌, map, ℤ, false, arith}
 use Rattle.std.specs.Prelude.{not, nat_eq, ◌&&◌}
 use Rattle.std.specs.List.{flat_map, list_any, zip}
 use Rattle.std.proofs.lemmas.List.{map-append}

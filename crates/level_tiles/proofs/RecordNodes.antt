@@ -1,8 +1,7 @@
 -- The node records and the transitions of the work tiles of a table without turn restrictions and shortcuts are those of
 -- the folder; and the folder has no chains and sequences there.
-use Rattle.std.proofs.Common.{◌≡◌, ℕ, ◌+◌, ◌<◌, refl, sym, ◌∙◌, ap, subst, List, [], ◌∷◌, ◌++◌, length, map, ℤ, Bool, true, false, cond, inl, inr, arith}
-use Rattle.std.specs.Prelude.{All, filter, not, nat_eq, nat_lt, ◌&&◌}
-use Rattle.std.specs.List.{flat_map}
+use Rattle.std.proofs.Common.{◌≡◌, ℕ, ◌+◌, refl, ◌∙◌, ap, List, [], ◌∷◌, length, map, ℤ, true, false, cond, inl, inr}
+use Rattle.std.specs.Prelude.{All, filter, not, nat_eq, nat_lt}
 use Rattle.std.proofs.lemmas.Bool.{both_ways, lt-ltb, ltb-true}
 use Rattle.std.proofs.lemmas.List.{length-map}
 use Rattle.std.proofs.lemmas.List.Folds.{flat_map-map}
@@ -15,14 +14,14 @@ use Rattle.tile_records.specs.Nodes.{NodeFields}
 use Rattle.folder_spec.specs.Links.{Link, base_link, edges_of}
 use Rattle.folder_spec.specs.Tables.{NodeRow, TileRows, first_index, is_node, links_of, tile_rows_at, node_graph_id, link_graph_id}
 use Rattle.folder_spec.specs.Records.{is_shortcut, transitions_of, node_fields, node_records, sequence_row_of, starts_in, tile_from}
-use Rattle.work_tile.specs.WorkRows.{WorkNode, WorkRows}
-use Rattle.tile_numbers.specs.LookUps.{work_rows_at, node_index, node_in, node_on_level, node_on_other, other_nodes}
+use Rattle.work_tile.specs.WorkRows.{WorkNode}
+use Rattle.tile_numbers.specs.LookUps.{node_in, node_on_level, node_on_other, other_nodes}
 use Rattle.tile_numbers.specs.Records.{numbered_node, numbered_nodes, node_records_of, transitions_of_rows}
 use Rattle.edge_builder.specs.ExtractRows.{node_tile, edge_of_extract, node_of_extract}
 use Rattle.kept_rows.specs.KeptRows.{IsPlainTable, open_table, rows_of_table}
 use Rattle.level_tiles.specs.LevelTiles.{told_so_far}
 use Rattle.level_tiles.proofs.RecordPlaces.{same_bools, each_of_all, none_pass, flat_alike, flat_filter}
-use Rattle.level_tiles.proofs.RecordTable.{levels, starting, of_starting, row_on, row_starts, index_within, start_of_found}
+use Rattle.level_tiles.proofs.RecordTable.{levels, starting, of_starting, row_starts, index_within, start_of_found}
 use Rattle.level_tiles.proofs.EndsFound.{open_tiles, tile_at_end, node_at_end}
 
 some_none : {E : Type 0} (es : List E) → not_none es ≡ true → (e : E) × IsIn es e

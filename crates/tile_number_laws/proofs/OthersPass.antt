@@ -1,5 +1,5 @@
 -- Transitions pass, each by itself.
-use Rattle.std.proofs.Common.{◌≡◌, ◌∙◌, ℕ, ◌≤◌, ap, List, [], ◌∷◌, ◌++◌, length, Bool, true, false, cond, not, nat_eq, nat_lt, nat_le, ◌&&◌, arith, le-leb}
+use Rattle.std.proofs.Common.{◌≡◌, ◌∙◌, ℕ, ◌≤◌, ap, List, [], ◌∷◌, ◌++◌, length, Bool, true, false, cond, not, nat_eq, nat_lt, ◌&&◌, arith, le-leb}
 use Rattle.std.specs.Prelude.{◌==◌, All}
 use Rattle.std.proofs.lemmas.List.Elements.{All-append, All-cons, All-nil, All-head, All-tail}
 use Rattle.graph_id.specs.GraphId.{level_of, value_of}
@@ -8,7 +8,7 @@ use Rattle.section_grammar.specs.Reads.{AllGood}
 use Rattle.tile_bytes.specs.declared.ids.LevelRule.TheVariants as rules
 use Rattle.tile_bytes.specs.Items.{id_passes, IsId, IsValid}
 use Rattle.work_tile.specs.WorkRows.{WorkNode, WorkRows}
-use Rattle.tile_numbers.specs.LookUps.{work_rows_at, node_index, node_on_level, node_on_other, other_nodes}
+use Rattle.tile_numbers.specs.LookUps.{work_rows_at, node_index, node_on_other, other_nodes}
 use Rattle.tile_numbers.proofs.OtherNodes.{others_in}
 use Rattle.tile_number_laws.specs.NumberedChecks.{TransitionsPass}
 use Rattle.tile_number_laws.proofs.EdgesPass.{level_is}

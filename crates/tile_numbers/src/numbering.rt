@@ -144,8 +144,7 @@ fn push_records(
     let to = from + node.edges_len();
     push_transitions(&mut tile.transitions, tiles, places, rows.level(), &node)?;
     let others = tile.transitions.len() - shifts;
-    tile.nodes
-        .push(node_record(from as u32, shifts as u32, others as u8, &node))?;
+    tile.nodes.push(node_record(from as u32, shifts as u32, others as u8, &node))?;
     push_edges(
         &mut tile.edges,
         tiles,

@@ -1,9 +1,5 @@
-use Rattle.std.proofs.Common.{◌∙◌, sym, ap, arith}
-use Rattle.std.specs.List.{flat_map}
-use Rattle.std.proofs.lemmas.List.{take_all}
-use Rattle.tile_numbers.specs.LookUps.{other_nodes}
-use Rattle.tile_numbers.specs.Records.{numbered_nodes}
-use Rattle.tile_numbers.proofs.RecordLists.{no_edges_yet, tile_all}
+use Rattle.std.proofs.Common.{◌∙◌, sym}
+use Rattle.tile_numbers.proofs.RecordLists.{no_edges_yet}
 use Rattle.tile_numbers.proofs.numbering.numbered.Goals as goal
 
 pub loop-k-init : goal.loop-k-init
