@@ -1,0 +1,4 @@
+mod PatternLemmas
+pub mod BitNumbers
+mod MaskLemmas
+mod Steps

@@ -1,0 +1,2 @@
+pub mod PatternRows
+pub mod Codes

@@ -1,0 +1,11 @@
+//! Patterns of turn restrictions by the codes of directed pieces: the masks of edges, the flags of pieces, and the
+//! patterns that are stored as sequences.
+#![tactic(auto)]
+
+mod edge_masks;
+mod patterns;
+mod sequences;
+
+pub use edge_masks::masks;
+pub use patterns::{PatternView, TurnPatterns};
+pub use sequences::{flags, stored};

@@ -1,0 +1,3 @@
+mod Pairs
+mod PieceCodes
+mod CodeLaws
