@@ -3,9 +3,11 @@
 #![tactic(auto)]
 
 mod edge_masks;
+mod local_codes;
 mod patterns;
 mod sequences;
 
 pub use edge_masks::masks;
+pub use local_codes::local_indexes;
 pub use patterns::{PatternView, TurnPatterns};
 pub use sequences::{flags, stored};

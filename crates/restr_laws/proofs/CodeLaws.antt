@@ -21,7 +21,7 @@ any_named : {A B : Type 0} (name : A → B) (p : B → Bool) (q : A → Bool) (x
 any_named name p q [] same = refl
 any_named name p q (a ∷ xs) same = λ i. same a (inl refl) i || any_named name p q xs (λ b h. same b (inr h)) i
 
-filter_named : {A B : Type 0} (name : A → B) (p : B → Bool) (q : A → Bool) (xs : List A) → ((a : A) → IsIn xs a → p (name a) ≡ q a) → filter p (map name xs) ≡ map name (filter q xs)
+pub filter_named : {A B : Type 0} (name : A → B) (p : B → Bool) (q : A → Bool) (xs : List A) → ((a : A) → IsIn xs a → p (name a) ≡ q a) → filter p (map name xs) ≡ map name (filter q xs)
 filter_named name p q [] same = refl
 filter_named name p q (a ∷ xs) same =
     (λ i. cond (same a (inl refl) i) (name a ∷ filter_named name p q xs (λ b h. same b (inr h)) i) (filter_named name p q xs (λ b h. same b (inr h)) i)) ∙ by (q a)

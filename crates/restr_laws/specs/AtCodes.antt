@@ -28,7 +28,7 @@ pub record AreCoded (x : Extract) (patterns : List (List ℕ × ℕ)) (locals : 
   pub below : CodesBelow (length (directed_pieces x)) patterns
   pub locals_are : AreLocals x locals
 
--- the list says of each piece whether it is kept
+-- the list says of each piece whether it is open to an asked mode in some direction; the further arguments of `keeps_piece` don't matter
 pub record AreKeptFlags (x : Extract) (asked : ℕ) (kept : List Bool) : Type 0 where
   pub all : length (directed_pieces x) ≡ 2 * length kept
   pub each : (k : ℕ) → k < length kept → slice_index_or kept k false ≡ keeps_piece x asked tile_numbers [] (λ k n. 0) (piece_at x (2 * k))

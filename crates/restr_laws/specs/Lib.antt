@@ -1,1 +1,2 @@
 pub mod AtCodes
+pub mod CodePlaces
