@@ -1,0 +1,5 @@
+pub mod Words
+pub mod Members
+pub mod Most
+pub mod ViaWays
+pub mod Spelling

@@ -1,0 +1,14 @@
+//! Searches over words that are read member by member, and their laws.
+#![tactic(auto)]
+
+mod behind;
+mod laws;
+mod marks;
+mod spelling;
+
+pub use behind::{Place, make_table, one_more};
+pub use laws::{
+    firsts_tell, most_tells, rests_tell, rising_is_short, sets_tell, table_tells, words_tell,
+};
+pub use marks::raise;
+pub use spelling::{Readable, spell};
