@@ -1,0 +1,3 @@
+pub mod RowWordLaw
+pub mod RowAnswerLaw
+pub mod FoundLaw

@@ -1,0 +1,3 @@
+pub mod RowWords
+pub mod Found
+pub mod RowSearch

@@ -1,0 +1,37 @@
+//! Laws of the patterns of turn restrictions, which hold by the definitions alone.
+
+ghost use Rattle.turn_patterns.specs.Found.{FoundTells, OneFound};
+ghost use Rattle.turn_patterns.specs.RowSearch.{SearchAnswers, SearchRises};
+ghost use Rattle.turn_patterns.specs.RowWords.{SameWords};
+
+use road_walks::{pieces_tell_patterns, readings_agree};
+
+/// What is found for a turn restriction says whether it is usable.
+pub fn found_tells()
+    ensures { FoundTells }
+{}
+
+/// No two things are found for one turn restriction.
+pub fn one_found()
+    ensures { OneFound }
+{}
+
+/// The patterns of a turn restriction with via ways, an only one too, are the words that a search goes over.
+pub fn words_agree()
+    ensures { SameWords }
+{
+    pieces_tell_patterns();
+    readings_agree();
+}
+
+/// A search over the members of a turn restriction answers exactly its patterns of at most 33 pieces.
+pub fn search_answers()
+    ensures { SearchAnswers }
+{
+    words_agree();
+}
+
+/// The patterns that a search answers are in order, each once.
+pub fn search_rises()
+    ensures { SearchRises }
+{}
