@@ -6,3 +6,4 @@ pub mod ViaLaw
 pub mod Counting
 pub mod ViaTables
 pub mod Adding
+pub mod RenameLaw

@@ -2,4 +2,5 @@ pub mod Words
 pub mod Members
 pub mod Most
 pub mod ViaWays
+pub mod Renamed
 pub mod Spelling

@@ -3,6 +3,7 @@
 ghost use Rattle.std.specs.Prelude.{ℕ, ◌<◌};
 ghost use Rattle.pattern_search.specs.Members.{ReadState, SetsTell};
 ghost use Rattle.pattern_search.specs.Most.{FirstsTell, MostTells, TableTells};
+ghost use Rattle.pattern_search.specs.Renamed.{SameWordsRenamed};
 ghost use Rattle.pattern_search.specs.ViaWays.{RestsTell};
 ghost use Rattle.pattern_search.specs.Words.{RisingIsShort, WordSearch, WordsTell};
 
@@ -39,4 +40,9 @@ pub fn table_tells()
 /// A list of words that rises is no longer than any list with its words.
 pub fn rising_is_short()
     ensures { RisingIsShort }
+{}
+
+/// A search over numbers that stand for letters spells the same words.
+pub fn renamed_words()
+    ensures { SameWordsRenamed ℕ }
 {}
