@@ -7,3 +7,4 @@ pub mod Counting
 pub mod ViaTables
 pub mod Adding
 pub mod RenameLaw
+pub mod StepLaw

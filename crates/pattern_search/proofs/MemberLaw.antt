@@ -11,22 +11,22 @@ abbrev Passes : Bool → Type 0
 Passes true = ⊤
 Passes false = ⊥
 
-differ : false ≡ true → ⊥
+pub differ : false ≡ true → ⊥
 differ is = subst Passes (sym is) tt
 
 abbrev IsThere : {A : Type 0} → Option A → Type 0
 IsThere None = ⊥
 IsThere (Some a) = ⊤
 
-or_left : (a b : Bool) → a ≡ true → (a || b) ≡ true
+pub or_left : (a b : Bool) → a ≡ true → (a || b) ≡ true
 or_left true b is = refl
 or_left false b is = absurd (differ is)
 
-or_right : (a b : Bool) → b ≡ true → (a || b) ≡ true
+pub or_right : (a b : Bool) → b ≡ true → (a || b) ≡ true
 or_right true b is = refl
 or_right false b is = is
 
-or_either : (a b : Bool) → (a || b) ≡ true → (a ≡ true) ⊎ (b ≡ true)
+pub or_either : (a b : Bool) → (a || b) ≡ true → (a ≡ true) ⊎ (b ≡ true)
 or_either true b is = inl refl
 or_either false b is = inr is
 
@@ -42,15 +42,15 @@ some_is f (j ∷ js) t = elim (or_either (f j) (some_member f js) t) [
   | inr k ↦ (let found = some_is f js k in (found.0, (inr found.1.0, found.1.1)))
 ]
 
-and_both : (a b : Bool) → a ≡ true → b ≡ true → (a && b) ≡ true
+pub and_both : (a b : Bool) → a ≡ true → b ≡ true → (a && b) ≡ true
 and_both true b s t = t
 and_both false b s t = absurd (differ s)
 
-and_left : (a b : Bool) → (a && b) ≡ true → a ≡ true
+pub and_left : (a b : Bool) → (a && b) ≡ true → a ≡ true
 and_left true b t = refl
 and_left false b t = absurd (differ t)
 
-and_right : (a b : Bool) → (a && b) ≡ true → b ≡ true
+pub and_right : (a b : Bool) → (a && b) ≡ true → b ≡ true
 and_right true b t = t
 and_right false b t = absurd (differ t)
 

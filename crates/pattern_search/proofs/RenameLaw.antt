@@ -1,9 +1,9 @@
 -- A search over numbers that stand for letters spells the same words.
-use Rattle.std.proofs.Common.{◌≡◌, refl, sym, ◌∙◌, ap, subst, ℕ, zero, suc, Bool, true, false, cond, List, [], ◌∷◌, ◌++◌, inl, inr}
-use Rattle.std.specs.Prelude.{◌&&◌, ◌||◌, map, filter, Option, Some, None}
+use Rattle.std.proofs.Common.{◌≡◌, refl, sym, ◌∙◌, ap, ℕ, zero, suc, Bool, true, false, cond, List, [], ◌∷◌, ◌++◌, inl, inr}
+use Rattle.std.specs.Prelude.{◌&&◌, ◌||◌, map, filter}
 use Rattle.std.specs.List.{flat_map, range_with_len}
 use Rattle.pattern_search.specs.Words.{Includes, ended_word, led_words, words_of}
-use Rattle.pattern_search.specs.Members.{Members, ReadState, some_member, members_after, state_at, by_sets}
+use Rattle.pattern_search.specs.Members.{Members, some_member, members_after, state_at, by_sets}
 use Rattle.pattern_search.specs.Renamed.{AreRenamed, SameWordsRenamed}
 
 map_append : {A B : Type 0} (f : A → B) (xs ys : List A) → map f (xs ++ ys) ≡ map f xs ++ map f ys
@@ -33,8 +33,8 @@ module _ {P : Type 0} (is_letter : ℕ → Bool) (letter : ℕ → P) (numbers :
   after_same : (is : List ℕ) (p q : ℕ) → is_letter p ≡ true → is_letter q ≡ true → members_after m is (letter p) (letter q) ≡ members_after numbers is p q
   after_same is p q from to =
       filter_same (λ j. m.can j (letter q) && some_member (λ i. m.moves i (letter p) (letter q) j) is) (λ j. numbers.can j q && some_member (λ i. numbers.moves i p q j) is) (range_with_len 0 (suc m.count)) (λ j.
-        ap (λ t. t && some_member (λ i. m.moves i (letter p) (letter q) j) is) (renamed.can j q to)
-        ∙ ap (λ t. numbers.can j q && t) (some_same (λ i. m.moves i (letter p) (letter q) j) (λ i. numbers.moves i p q j) is (λ i. renamed.moves i p q j from to)))
+      ap (λ t. t && some_member (λ i. m.moves i (letter p) (letter q) j) is) (renamed.can j q to)
+      ∙ ap (λ t. numbers.can j q && t) (some_same (λ i. m.moves i (letter p) (letter q) j) (λ i. numbers.moves i p q j) is (λ i. renamed.moves i p q j from to)))
       ∙ ap (λ k. filter (λ j. numbers.can j q && some_member (λ i. numbers.moves i p q j) is) (range_with_len 0 (suc k))) renamed.count
 
   ended_same : (q : ℕ) (b : Bool) → ended_word b (letter q) ≡ map (map letter) (ended_word b q)

@@ -4,3 +4,4 @@ pub mod Most
 pub mod ViaWays
 pub mod Renamed
 pub mod Spelling
+pub mod ViaSets

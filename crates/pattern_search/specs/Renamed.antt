@@ -1,7 +1,7 @@
 -- Letters under other names: a search over numbers that stand for the letters of another one.
 use Rattle.std.specs.Prelude.{◌≡◌, ℕ, Bool, true, List, map}
 use Rattle.pattern_search.specs.Words.{Includes, words_of}
-use Rattle.pattern_search.specs.Members.{Members, ReadState, by_sets}
+use Rattle.pattern_search.specs.Members.{Members, by_sets}
 
 -- the numbers stand for letters, and all tests are the same
 pub record AreRenamed {P : Type 0} (is_letter : ℕ → Bool) (letter : ℕ → P) (numbers : Members ℕ) (m : Members P) : Type 0 where

@@ -4,6 +4,7 @@ ghost use Rattle.std.specs.Prelude.{ℕ, ◌<◌};
 ghost use Rattle.pattern_search.specs.Members.{ReadState, SetsTell};
 ghost use Rattle.pattern_search.specs.Most.{FirstsTell, MostTells, TableTells};
 ghost use Rattle.pattern_search.specs.Renamed.{SameWordsRenamed};
+ghost use Rattle.pattern_search.specs.ViaSets.{StepsTell};
 ghost use Rattle.pattern_search.specs.ViaWays.{RestsTell};
 ghost use Rattle.pattern_search.specs.Words.{RisingIsShort, WordSearch, WordsTell};
 
@@ -45,4 +46,9 @@ pub fn rising_is_short()
 /// A search over numbers that stand for letters spells the same words.
 pub fn renamed_words()
     ensures { SameWordsRenamed ℕ }
+{}
+
+/// The members at which a word may be after a letter, told by the tests of via ways.
+pub fn steps_tell()
+    ensures { StepsTell ℕ }
 {}
