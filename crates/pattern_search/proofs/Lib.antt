@@ -8,3 +8,4 @@ pub mod ViaTables
 pub mod Adding
 pub mod RenameLaw
 pub mod StepLaw
+pub mod NumberLaw

@@ -5,3 +5,4 @@ pub mod ViaWays
 pub mod Renamed
 pub mod Spelling
 pub mod ViaSets
+pub mod Numbers

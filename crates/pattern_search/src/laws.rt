@@ -3,6 +3,7 @@
 ghost use Rattle.std.specs.Prelude.{ℕ, ◌<◌};
 ghost use Rattle.pattern_search.specs.Members.{ReadState, SetsTell};
 ghost use Rattle.pattern_search.specs.Most.{FirstsTell, MostTells, TableTells};
+ghost use Rattle.pattern_search.specs.Numbers.{NumbersTell};
 ghost use Rattle.pattern_search.specs.Renamed.{SameWordsRenamed};
 ghost use Rattle.pattern_search.specs.ViaSets.{StepsTell};
 ghost use Rattle.pattern_search.specs.ViaWays.{RestsTell};
@@ -51,4 +52,9 @@ pub fn renamed_words()
 /// The members at which a word may be after a letter, told by the tests of via ways.
 pub fn steps_tell()
     ensures { StepsTell ℕ }
+{}
+
+/// The numbers made from the last via way back to the first are the lengths of the longest words, up to a cap.
+pub fn numbers_tell()
+    ensures { NumbersTell }
 {}

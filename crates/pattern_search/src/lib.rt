@@ -9,8 +9,8 @@ mod stepping;
 
 pub use behind::{Place, make_table, one_more};
 pub use laws::{
-    firsts_tell, most_tells, renamed_words, rests_tell, rising_is_short, sets_tell, steps_tell,
-    table_tells, words_tell,
+    firsts_tell, most_tells, numbers_tell, renamed_words, rests_tell, rising_is_short, sets_tell,
+    steps_tell, table_tells, words_tell,
 };
 pub use marks::raise;
 pub use spelling::{Readable, spell};
