@@ -1,3 +1,4 @@
 pub mod RowWordLaw
 pub mod RowAnswerLaw
 pub mod FoundLaw
+pub mod CountLaw

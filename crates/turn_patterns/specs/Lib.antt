@@ -1,3 +1,4 @@
 pub mod RowWords
 pub mod Found
 pub mod RowSearch
+pub mod Counted

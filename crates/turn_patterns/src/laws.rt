@@ -1,5 +1,6 @@
 //! Laws of the patterns of turn restrictions, which hold by the definitions alone.
 
+ghost use Rattle.turn_patterns.specs.Counted.{MatchesTell, RowNumbersTell};
 ghost use Rattle.turn_patterns.specs.Found.{FoundTells, OneFound};
 ghost use Rattle.turn_patterns.specs.RowSearch.{SearchAnswers, SearchRises};
 ghost use Rattle.turn_patterns.specs.RowWords.{SameWords};
@@ -35,3 +36,16 @@ pub fn search_answers()
 pub fn search_rises()
     ensures { SearchRises }
 {}
+
+/// A turn restriction has a match exactly where it would have a pattern if it forbade its matches.
+pub fn matches_tell()
+    ensures { MatchesTell }
+{}
+
+/// The numbers of the pieces of from ways tell whether a turn restriction with via ways has a pattern, and whether one
+/// is too long.
+pub fn row_numbers_tell()
+    ensures { RowNumbersTell }
+{
+    words_agree();
+}

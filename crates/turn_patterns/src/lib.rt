@@ -3,4 +3,7 @@
 
 mod laws;
 
-pub use laws::{found_tells, one_found, search_answers, search_rises, words_agree};
+pub use laws::{
+    found_tells, matches_tell, one_found, row_numbers_tell, search_answers, search_rises,
+    words_agree,
+};
