@@ -41,12 +41,12 @@ begun Is (r ∷ qs) w (inr h) =
     let found : IsBegun Is qs w = begun Is qs w h in
     record { letter = found.letter; rest = found.rest; is = found.is; there = inr found.there; behind = found.behind }
 
-any_of : {P : Type 0} (f : P → Bool) (qs : List P) (q : P) → Includes qs q → f q ≡ true → list_any f qs ≡ true
+pub any_of : {P : Type 0} (f : P → Bool) (qs : List P) (q : P) → Includes qs q → f q ≡ true → list_any f qs ≡ true
 any_of f [] q there t = absurd there
 any_of f (r ∷ qs) q (inl same) t = or_left (f r) (list_any f qs) (ap f same ∙ t)
 any_of f (r ∷ qs) q (inr there) t = or_right (f r) (list_any f qs) (any_of f qs q there t)
 
-any_is : {P : Type 0} (f : P → Bool) (qs : List P) → list_any f qs ≡ true → (q : P) × (Includes qs q × (f q ≡ true))
+pub any_is : {P : Type 0} (f : P → Bool) (qs : List P) → list_any f qs ≡ true → (q : P) × (Includes qs q × (f q ≡ true))
 any_is f [] t = absurd (differ t)
 any_is f (r ∷ qs) t = elim (or_either (f r) (list_any f qs) t) [
   | inl k ↦ (r, (inl refl, k))

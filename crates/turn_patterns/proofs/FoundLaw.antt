@@ -46,7 +46,7 @@ true_false : true ≡ false → ⊥
 true_false is = subst Passes is tt
 
 -- no piece comes both before and after another
-never_both : (p q : DirectedPiece) → ComesBefore p q → ComesBefore q p → ⊥
+pub never_both : (p q : DirectedPiece) → ComesBefore p q → ComesBefore q p → ⊥
 never_both p q (inl low) (inl high) = absurd (omega (arith, ints, low, high))
 never_both p q (inl low) (inr (same, high)) = let same_way : p.way <ℤ p.way = subst (λ w. p.way <ℤ w) same low in absurd (omega (arith, ints, same_way))
 never_both p q (inr (same, low)) (inl high) = let same_way : q.way <ℤ q.way = subst (λ w. q.way <ℤ w) same high in absurd (omega (arith, ints, same_way))

@@ -2,3 +2,4 @@ pub mod RowWordLaw
 pub mod RowAnswerLaw
 pub mod FoundLaw
 pub mod CountLaw
+pub mod WaysFoundLaw

@@ -2,3 +2,4 @@ pub mod RowWords
 pub mod Found
 pub mod RowSearch
 pub mod Counted
+pub mod WaysFound

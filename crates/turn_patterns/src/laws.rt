@@ -3,6 +3,7 @@
 ghost use Rattle.turn_patterns.specs.Counted.{MatchesTell, RowNumbersTell};
 ghost use Rattle.turn_patterns.specs.Found.{FoundTells, OneFound};
 ghost use Rattle.turn_patterns.specs.RowSearch.{SearchAnswers, SearchRises};
+ghost use Rattle.turn_patterns.specs.WaysFound.{WaysFound};
 ghost use Rattle.turn_patterns.specs.RowWords.{SameWords};
 
 use road_walks::{pieces_tell_patterns, readings_agree};
@@ -46,6 +47,13 @@ pub fn matches_tell()
 /// is too long.
 pub fn row_numbers_tell()
     ensures { RowNumbersTell }
+{
+    words_agree();
+}
+
+/// What is found for a turn restriction with via ways is told by its numbers and its search.
+pub fn ways_answer()
+    ensures { WaysFound }
 {
     words_agree();
 }

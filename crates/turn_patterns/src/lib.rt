@@ -5,5 +5,5 @@ mod laws;
 
 pub use laws::{
     found_tells, matches_tell, one_found, row_numbers_tell, search_answers, search_rises,
-    words_agree,
+    ways_answer, words_agree,
 };
