@@ -94,3 +94,11 @@ pub rising_map : {X E : Type 0} (Low : X → X → Type 0) (Less : E → E → T
 rising_map Low Less f [] rises keeps = tt
 rising_map Low Less f (x ∷ xs) rises keeps =
     (λ e h. let found = among_unmap f xs e h in subst (Less (f x)) found.1.1 (keeps x found.0 (rises.0 found.0 found.1.0)), rising_map Low Less f xs rises.1 keeps)
+
+pub rising_filter : {E : Type 0} (Less : E → E → Type 0) (test : E → Bool) (xs : List E) → Rising Less xs → Rising Less (filter test xs)
+rising_filter Less test [] rises = tt
+rising_filter Less test (x ∷ xs) rises = by (test x) (rising_filter Less test xs rises.1)
+  where
+    by : (b : Bool) → Rising Less (filter test xs) → Rising Less (cond b (x ∷ filter test xs) (filter test xs))
+    by true rest = (λ f there. rises.0 f (among_unfilter test xs f there).0, rest)
+    by false rest = rest

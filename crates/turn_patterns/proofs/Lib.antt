@@ -3,3 +3,5 @@ pub mod RowAnswerLaw
 pub mod FoundLaw
 pub mod CountLaw
 pub mod WaysFoundLaw
+pub mod UnlessLaw
+pub mod NodeFoundLaw

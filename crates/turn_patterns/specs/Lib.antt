@@ -3,3 +3,4 @@ pub mod Found
 pub mod RowSearch
 pub mod Counted
 pub mod WaysFound
+pub mod NodeFound

@@ -2,11 +2,12 @@
 
 ghost use Rattle.turn_patterns.specs.Counted.{MatchesTell, RowNumbersTell};
 ghost use Rattle.turn_patterns.specs.Found.{FoundTells, OneFound};
+ghost use Rattle.turn_patterns.specs.NodeFound.{NodeFound};
 ghost use Rattle.turn_patterns.specs.RowSearch.{SearchAnswers, SearchRises};
 ghost use Rattle.turn_patterns.specs.WaysFound.{WaysFound};
 ghost use Rattle.turn_patterns.specs.RowWords.{SameWords};
 
-use road_walks::{pieces_tell_patterns, readings_agree};
+use road_walks::{node_patterns_agree, pieces_tell_patterns, readings_agree};
 
 /// What is found for a turn restriction says whether it is usable.
 pub fn found_tells()
@@ -56,4 +57,11 @@ pub fn ways_answer()
     ensures { WaysFound }
 {
     words_agree();
+}
+
+/// What is found for a turn restriction with a via node is told by the pieces that meet there.
+pub fn node_answer()
+    ensures { NodeFound }
+{
+    node_patterns_agree();
 }
