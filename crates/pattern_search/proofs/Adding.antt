@@ -112,3 +112,8 @@ words_step s (suc n) d some = ap (λ m. flat_map (words_with s m d) (s.letters d
 pub with_parts : {D : Type 0} (a b c : List (List ℕ)) (word : List ℕ) (s : WordSearch D ℕ) (n : ℕ) (d : D) (q : ℕ) → AddedUpTo a b (begun_with word (ended_word (s.last d q) q)) → AddedUpTo b c (begun_with word (led_words (words_of s n) q (s.next d q))) → AddedUpTo a c (begun_with word (words_with s n d q))
 with_parts a b c word s n d q one two =
     subst (AddedUpTo a c) (sym (begun_append word (ended_word (s.last d q) q) (led_words (words_of s n) q (s.next d q)))) (added_more a b c (begun_with word (ended_word (s.last d q) q)) (begun_with word (led_words (words_of s n) q (s.next d q))) one two)
+
+-- nothing begins with no letter
+pub begun_none : (ws : List (List ℕ)) → begun_with [] ws ≡ ws
+begun_none [] = refl
+begun_none (w ∷ ws) = ap (λ l. w ∷ l) (begun_none ws)

@@ -1,6 +1,6 @@
 -- A search as code does it: it stops as soon as one word more is found than may be answered.
-use Rattle.std.specs.Prelude.{◌≡◌, ◌++◌, ℕ, ◌≤◌, Bool, false, List, length, take, map, filter, Option, Some, None}
-use Rattle.std.specs.List.{range_with_len, slice_index_or}
+use Rattle.std.specs.Prelude.{◌≡◌, ◌++◌, ℕ, ◌≤◌, Bool, false, List, ◌∷◌, length, take, map, filter, Option, Some, None}
+use Rattle.std.specs.List.{flat_map, range_with_len, slice_index_or}
 use Rattle.pattern_search.specs.Members.{ReadState}
 use Rattle.pattern_search.specs.Words.{WordSearch, words_of, ended_word, led_words}
 
@@ -28,3 +28,7 @@ begun_with word more = map (λ w. word ++ w) more
 -- the words in which this letter is next
 abbrev pub words_with : {D P : Type 0} → WordSearch D P → ℕ → D → P → List (List P)
 words_with s n d q = ended_word (s.last d q) q ++ led_words (words_of s n) q (s.next d q)
+
+-- the words that begin with one of these letters, each at these members, and go on with at most so many letters
+abbrev pub words_from : WordSearch (ReadState ℕ) ℕ → ℕ → List ℕ → List ℕ → List (List ℕ)
+words_from s most members firsts = flat_map (λ p. map (λ w. p ∷ w) (words_of s most (record { letter = p; members = members }))) firsts

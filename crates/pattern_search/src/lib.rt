@@ -13,5 +13,5 @@ pub use laws::{
     steps_tell, table_tells, words_tell,
 };
 pub use marks::raise;
-pub use spelling::{Readable, spell};
+pub use spelling::{Readable, find_words, spell};
 pub use stepping::next_members;

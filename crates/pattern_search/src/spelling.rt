@@ -1,9 +1,9 @@
 //! The words of a search, in order, up to a limit.
 
-ghost use Rattle.std.specs.Prelude.{◌≡◌, ◌∷◌, ℕ, ◌≤◌, true, Bool, suc, length, map, IfOk, OnOk, option_map, All};
+ghost use Rattle.std.specs.Prelude.{◌≡◌, ◌∷◌, ℕ, ◌≤◌, true, Bool, suc, length, map, IfOk, OnOk, option_map, take, All};
 ghost use Rattle.std.specs.Option.{ForSome};
 ghost use Rattle.pattern_search.specs.Members.{Members, by_sets};
-ghost use Rattle.pattern_search.specs.Spelling.{AddedUpTo, begun_with, state_of, state_of_some, words_with};
+ghost use Rattle.pattern_search.specs.Spelling.{AddedUpTo, begun_with, members_in, state_of, state_of_some, words_from, words_with};
 ghost use Rattle.pattern_search.specs.Words.{ended_word, words_of};
 
 use std::alloc::{AllocError, Global};
@@ -151,4 +151,25 @@ pub fn spell<R: Readable>(
         spell_letter(alloc, search, from, set, *letter, most - 1, word, found)?;
     }
     Ok(())
+}
+
+/// The words that begin with one of these letters, each at the members of `start`, and go on with at most so many
+/// letters, in order. It stops at 257 words: there may be more then.
+pub fn find_words<R: Readable>(
+    alloc: Global,
+    search: &R,
+    start: &[bool],
+    firsts: &[u32],
+    most: u32,
+) -> Result<Vec<Vec<u32>>, AllocError>
+    requires letters { All (λ p. R.is_letter search.now p ≡ true) firsts.now }
+    requires size { length start.now ≡ suc (R.members search.now).count }
+    ensures { IfOk result (λ found. map (λ w. w.items) found.items ≡ take 257 (words_from (by_sets (R.members search.now)) most (members_in start.now) firsts.now)) }
+{
+    let mut found = Vec::new(alloc);
+    let mut word = Vec::new(alloc);
+    for first in firsts {
+        spell_on(alloc, search, *first, start, most, &mut word, &mut found)?;
+    }
+    Ok(found)
 }
