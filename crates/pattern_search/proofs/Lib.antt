@@ -9,3 +9,4 @@ pub mod Adding
 pub mod RenameLaw
 pub mod StepLaw
 pub mod NumberLaw
+pub mod DecideLaw

@@ -6,3 +6,4 @@ pub mod Renamed
 pub mod Spelling
 pub mod ViaSets
 pub mod Numbers
+pub mod Deciding

@@ -3,6 +3,7 @@
 ghost use Rattle.std.specs.Prelude.{ℕ, ◌<◌};
 ghost use Rattle.pattern_search.specs.Members.{ReadState, SetsTell};
 ghost use Rattle.pattern_search.specs.Most.{FirstsTell, MostTells, TableTells};
+ghost use Rattle.pattern_search.specs.Deciding.{TestsAreRight};
 ghost use Rattle.pattern_search.specs.Numbers.{NumbersTell};
 ghost use Rattle.pattern_search.specs.Renamed.{SameWordsRenamed};
 ghost use Rattle.pattern_search.specs.ViaSets.{StepsTell};
@@ -57,4 +58,9 @@ pub fn steps_tell()
 /// The numbers made from the last via way back to the first are the lengths of the longest words, up to a cap.
 pub fn numbers_tell()
     ensures { NumbersTell }
+{}
+
+/// Tests that decide what via ways ask make the members of these ways.
+pub fn tests_are_right()
+    ensures { TestsAreRight }
 {}

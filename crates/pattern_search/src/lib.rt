@@ -10,7 +10,7 @@ mod stepping;
 pub use behind::{Place, make_table, one_more};
 pub use laws::{
     firsts_tell, most_tells, numbers_tell, renamed_words, rests_tell, rising_is_short, sets_tell,
-    steps_tell, table_tells, words_tell,
+    steps_tell, table_tells, tests_are_right, words_tell,
 };
 pub use marks::raise;
 pub use spelling::{Readable, find_words, spell};
