@@ -5,3 +5,4 @@ pub mod CountLaw
 pub mod WaysFoundLaw
 pub mod UnlessLaw
 pub mod NodeFoundLaw
+pub mod RowTestLaw

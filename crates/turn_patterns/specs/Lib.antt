@@ -4,3 +4,4 @@ pub mod RowSearch
 pub mod Counted
 pub mod WaysFound
 pub mod NodeFound
+pub mod RowTests

@@ -5,9 +5,10 @@ ghost use Rattle.turn_patterns.specs.Found.{FoundTells, OneFound};
 ghost use Rattle.turn_patterns.specs.NodeFound.{NodeFound};
 ghost use Rattle.turn_patterns.specs.RowSearch.{SearchAnswers, SearchRises};
 ghost use Rattle.turn_patterns.specs.WaysFound.{WaysFound};
+ghost use Rattle.turn_patterns.specs.RowTests.{RowTestsDecide};
 ghost use Rattle.turn_patterns.specs.RowWords.{SameWords};
 
-use road_walks::{node_patterns_agree, pieces_tell_patterns, readings_agree};
+use road_walks::{node_patterns_agree, pieces_listed, pieces_tell_patterns, readings_agree};
 
 /// What is found for a turn restriction says whether it is usable.
 pub fn found_tells()
@@ -64,4 +65,11 @@ pub fn node_answer()
     ensures { NodeFound }
 {
     node_patterns_agree();
+}
+
+/// The tests of a search over directed pieces decide what a turn restriction with via ways asks.
+pub fn row_tests_decide()
+    ensures { RowTestsDecide }
+{
+    pieces_listed();
 }
