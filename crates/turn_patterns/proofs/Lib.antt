@@ -6,3 +6,4 @@ pub mod WaysFoundLaw
 pub mod UnlessLaw
 pub mod NodeFoundLaw
 pub mod RowTestLaw
+pub mod RiseLaw

@@ -5,3 +5,4 @@ pub mod Counted
 pub mod WaysFound
 pub mod NodeFound
 pub mod RowTests
+pub mod PiecesRise

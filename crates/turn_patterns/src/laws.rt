@@ -3,6 +3,7 @@
 ghost use Rattle.turn_patterns.specs.Counted.{MatchesTell, RowNumbersTell};
 ghost use Rattle.turn_patterns.specs.Found.{FoundTells, OneFound};
 ghost use Rattle.turn_patterns.specs.NodeFound.{NodeFound};
+ghost use Rattle.turn_patterns.specs.PiecesRise.{PiecesRise};
 ghost use Rattle.turn_patterns.specs.RowSearch.{SearchAnswers, SearchRises};
 ghost use Rattle.turn_patterns.specs.WaysFound.{WaysFound};
 ghost use Rattle.turn_patterns.specs.RowTests.{RowTestsDecide};
@@ -73,3 +74,8 @@ pub fn row_tests_decide()
 {
     pieces_listed();
 }
+
+/// All directed pieces, and those that may come after one, are listed in order.
+pub fn pieces_rise()
+    ensures { PiecesRise }
+{}
