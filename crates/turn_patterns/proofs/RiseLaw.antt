@@ -11,10 +11,13 @@ use Rattle.road_pieces.specs.Rows.{stops, spans, spans_from}
 use Rattle.road_pieces.specs.Runs.{way_runs, is_junction}
 use Rattle.road_walks.specs.BaseEdges.{run_pieces, way_pieces, directed_pieces}
 use Rattle.pattern_search.specs.Words.{Includes, Rising}
-use Rattle.pattern_search.proofs.Inclusion.{among_unflat, rising_filter, rising_flat}
+use Rattle.pattern_search.proofs.Inclusion.{among_filter, among_unfilter, among_unflat, rising_filter, rising_flat}
 use Rattle.turn_patterns.specs.Found.{ComesBefore}
-use Rattle.turn_patterns.specs.PiecesRise.{PiecesRise}
+use Rattle.turn_patterns.specs.PiecesRise.{PiecesRise, FirstsTellPieces}
+use Rattle.turn_patterns.specs.RowTests.{is_among}
 use Rattle.turn_patterns.proofs.FoundLaw.{contains}
+use Rattle.turn_patterns.proofs.RowTestLaw.{among_is, from_among, to_among}
+use Rattle.road_walks.specs.Listed.{PiecesListed}
 
 -- pairs by their places are pairs one after the other
 pub rising_pairs : {E : Type 0} (Less : E → E → Type 0) (xs : List E) → AllPairs Less xs → Rising Less xs
@@ -135,3 +138,13 @@ module _ (x : Extract) where
 
 pub pieces_rise : PiecesRise
 pieces_rise x = (all_rise x, λ p. rising_filter ComesBefore (λ q. int_eq (piece_start x q) (piece_end x p)) (directed_pieces x) (all_rise x))
+
+pub firsts_are : PiecesListed → FirstsTellPieces
+firsts_are listed x from = (
+  λ p. (
+    λ h. let found = among_unfilter (λ q. is_among from q.way) (directed_pieces x) p h in
+        (((listed x).0 p).0 (to_among (directed_pieces x) p found.0), (among_is from p.way).0 found.1),
+    λ both. among_filter (λ q. is_among from q.way) (directed_pieces x) p (from_among (directed_pieces x) p (((listed x).0 p).1 both.0)) ((among_is from p.way).1 both.1),
+  ),
+  rising_filter ComesBefore (λ q. is_among from q.way) (directed_pieces x) (all_rise x),
+)

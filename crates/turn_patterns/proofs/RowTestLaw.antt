@@ -20,18 +20,18 @@ use Rattle.turn_patterns.specs.RowWords.{EndsPattern}
 use Rattle.turn_patterns.specs.RowTests.{is_among, stands_there, goes_on_from, pieces_after, may_end_with, RowTestsDecide}
 use Rattle.turn_patterns.proofs.FoundLaw.{contains, includes}
 
-from_among : {E : Type 0} (xs : List E) (e : E) → Among xs e → Includes xs e
+pub from_among : {E : Type 0} (xs : List E) (e : E) → Among xs e → Includes xs e
 from_among [] e h = absurd h
 from_among (x ∷ xs) e (inl is) = inl is
 from_among (x ∷ xs) e (inr h) = inr (from_among xs e h)
 
-to_among : {E : Type 0} (xs : List E) (e : E) → Includes xs e → Among xs e
+pub to_among : {E : Type 0} (xs : List E) (e : E) → Includes xs e → Among xs e
 to_among [] e h = absurd h
 to_among (x ∷ xs) e (inl is) = inl is
 to_among (x ∷ xs) e (inr h) = inr (to_among xs e h)
 
 -- ways
-among_is : (ways : List ℤ) (way : ℤ) → (is_among ways way ≡ true) ↔ Contains ways way
+pub among_is : (ways : List ℤ) (way : ℤ) → (is_among ways way ≡ true) ↔ Contains ways way
 among_is ways way = (
   λ h. let found : (w : ℤ) × (Includes ways w × (int_eq w way ≡ true)) = any_is (λ w. int_eq w way) ways h in
       subst (Contains ways) ((signed_Decides found.0 way).0 found.1.1) (contains ways found.0 found.1.0),

@@ -3,7 +3,7 @@
 ghost use Rattle.turn_patterns.specs.Counted.{MatchesTell, RowNumbersTell};
 ghost use Rattle.turn_patterns.specs.Found.{FoundTells, OneFound};
 ghost use Rattle.turn_patterns.specs.NodeFound.{NodeFound};
-ghost use Rattle.turn_patterns.specs.PiecesRise.{PiecesRise};
+ghost use Rattle.turn_patterns.specs.PiecesRise.{FirstsTellPieces, PiecesRise};
 ghost use Rattle.turn_patterns.specs.RowSearch.{SearchAnswers, SearchRises};
 ghost use Rattle.turn_patterns.specs.WaysFound.{WaysFound};
 ghost use Rattle.turn_patterns.specs.RowTests.{RowTestsDecide};
@@ -79,3 +79,10 @@ pub fn row_tests_decide()
 pub fn pieces_rise()
     ensures { PiecesRise }
 {}
+
+/// The pieces of some ways are listed in order.
+pub fn first_pieces_rise()
+    ensures { FirstsTellPieces }
+{
+    pieces_listed();
+}

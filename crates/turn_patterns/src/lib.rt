@@ -4,6 +4,6 @@
 mod laws;
 
 pub use laws::{
-    found_tells, matches_tell, node_answer, one_found, pieces_rise, row_numbers_tell,
-    row_tests_decide, search_answers, search_rises, ways_answer, words_agree,
+    first_pieces_rise, found_tells, matches_tell, node_answer, one_found, pieces_rise,
+    row_numbers_tell, row_tests_decide, search_answers, search_rises, ways_answer, words_agree,
 };
