@@ -1,0 +1,16 @@
+//! Phase Enhance: density, name consistency and not-thru.
+#![tactic(auto)]
+
+mod alike;
+mod cells;
+mod density;
+mod floods;
+mod held;
+mod looks;
+mod names;
+mod phase;
+mod readable;
+mod spots;
+
+pub use phase::Enhance;
+pub use readable::ReadableTile;
