@@ -10,7 +10,7 @@ use Rattle.work_tile.specs.WorkRows.{WorkNode, WorkRows}
 use Rattle.enhancer.specs.declared.held.Held.{Held}
 use Rattle.enhancer.specs.declared.names.NodeName.{NodeName}
 use Rattle.enhancer.specs.ReadableRows.{plain_edge, plain_node}
-use Rattle.enhancer.specs.Graph.{at_position, edges_of_node, edges_of_rows, edges_at}
+use Rattle.enhancer.specs.Graph.{at_position, edges_of_node, edges_in_rows, edges_at}
 use Rattle.enhancer.specs.Tells.{Holds}
 
 -- the rows that are at hand of a place
@@ -23,14 +23,14 @@ held_rows held ps j h x holds e =
 
 module _ (places : List ℕ) (ps : List WorkRows) (held : List Held) (level : ℕ) (at : NodeName) where
   pub edges-no_tile : None ≡ position (λ n. n == tile_number level at.tile) places → edges_at places ps level at ≡ []
-  edges-no_tile e = ap (λ o. edges_of_rows at.osm (at_position ps o)) (sym e)
+  edges-no_tile e = ap (λ o. edges_in_rows at.osm (at_position ps o)) (sym e)
 
   rows_here : (j h : ℕ) (x : Held) → Holds held ps → Some j ≡ position (λ n. n == tile_number level at.tile) places
       → Some h ≡ position (λ y. y.place == j) held
-      → edges_at places ps level at ≡ edges_of_rows at.osm (Some (get_or held h x).rows)
+      → edges_at places ps level at ≡ edges_in_rows at.osm (Some (get_or held h x).rows)
   rows_here j h x holds tile there =
-      ap (λ o. edges_of_rows at.osm (at_position ps o)) (sym tile)
-      ∙ ap (edges_of_rows at.osm) (held_rows held ps j h x holds there)
+      ap (λ o. edges_in_rows at.osm (at_position ps o)) (sym tile)
+      ∙ ap (edges_in_rows at.osm) (held_rows held ps j h x holds there)
 
   pub edges-no_node : (j h : ℕ) (x : Held) → Holds held ps → Some j ≡ position (λ n. n == tile_number level at.tile) places
       → Some h ≡ position (λ y. y.place == j) held

@@ -7,7 +7,7 @@ use Rattle.fixed_geo.specs.declared.points.Point.{Point}
 use Rattle.fixed_geo.specs.Place.{IsPlace}
 use Rattle.fixed_geo.specs.Length.{latitude_difference, longitude_difference, short_way}
 use Rattle.tile_geometry.specs.Grid.{from_south, from_west}
-use Rattle.enhancer.specs.Cells.{cell_of, near_cell}
+use Rattle.enhancer.specs.Cells.{geo_cell, near_cell}
 use Rattle.enhancer.specs.Density.{is_near}
 use Rattle.enhancer.proofs.Beside.{apart, gap}
 
@@ -118,8 +118,8 @@ cell_row p = from_south p / 200_000 % 20_000
 abbrev cell_column : Point → ℕ
 cell_column p = from_west p / 200_000 % 18_000
 
-cell_is : (p : Point) → cell_of p ≡ cell_row p * 18_000 + cell_column p
-unfolding cell_of
+cell_is : (p : Point) → geo_cell p ≡ cell_row p * 18_000 + cell_column p
+unfolding geo_cell
 cell_is p = refl
 
 rows_near : (x y : ℕ) → x ≤ 1_800_000_000 → y ≤ 1_800_000_000 → x ≤ y + 200_000 → y ≤ x + 200_000
@@ -129,7 +129,7 @@ rows_near x y hx hy up down =
     let ys : y / 200_000 % 20_000 ≡ y / 200_000 = omega (arith, hy) in
     (omega (arith, xs, hx), omega (arith, ys, hy), omega (arith, xs, ys, up, down), omega (arith, xs, ys, up, down))
 
-pub cells_near : (p q : Point) → IsPlace p → IsPlace q → is_near p q ≡ true → (k : ℕ) × (k < 9) × (near_cell (cell_of q) k ≡ cell_of p)
+pub cells_near : (p q : Point) → IsPlace p → IsPlace q → is_near p q ≡ true → (k : ℕ) × (k < 9) × (near_cell (geo_cell q) k ≡ geo_cell p)
 unfolding is_near latitude_difference longitude_difference short_way
 cells_near p q hp hq near =
     let both = and_parts (nat_le (latitude_difference p q) 200_000) (nat_le (longitude_difference p q) 200_000) near in
@@ -147,7 +147,7 @@ cells_near p q hp hq near =
     let b = column_step (cell_column p) (cell_column q) (omega arith) (omega arith) columns in (
       (3 * a.0 + b.0 + 5) % 9,
       (third a.0 b.0 a.1 b.1).0,
-      one_of (cell_of p) (cell_of q) (cell_row p) (cell_column p) (cell_row q) (cell_column q) a.0 b.0 (cell_is p) (cell_is q) (omega arith) a.1 b.1 a.2 b.2,
+      one_of (geo_cell p) (geo_cell q) (cell_row p) (cell_column p) (cell_row q) (cell_column q) a.0 b.0 (cell_is p) (cell_is q) (omega arith) a.1 b.1 a.2 b.2,
     )
 
 same_parts : (a b c d : ℕ) → b < 18_000 → d < 18_000 → a * 18_000 + b ≡ c * 18_000 + d → (a ≡ c) × (b ≡ d)

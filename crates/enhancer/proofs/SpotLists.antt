@@ -10,7 +10,7 @@ use Rattle.work_tile.specs.WorkRows.{WorkNode, WorkRows}
 use Rattle.enhancer.specs.declared.spots.Spot.{Spot}
 use Rattle.enhancer.specs.Enhanced.{FitPlaces, StandsIn}
 use Rattle.enhancer.specs.Graph.{at_position}
-use Rattle.enhancer.specs.Cells.{cell_of}
+use Rattle.enhancer.specs.Cells.{geo_cell}
 use Rattle.enhancer.specs.Density.{spot_of, nodes_in, tile_spots, near_tiles, near_spots}
 use Rattle.enhancer.proofs.NearLaw.{of_all}
 
@@ -27,11 +27,11 @@ all_images P Q f each (x ∷ xs) all =
     All-cons P (f x) (map f xs) (each x (all 0 x (omega arith))) (all_images P Q f each xs (λ k d inside. all (suc k) d (omega (arith, inside))))
 
 -- each spot has the cell of its place
-pub spots_in_cells : (places : List ℕ) (ps : List WorkRows) (tile : ℕ) → All (λ (s : Spot). s.cell ≡ cell_of s.at) (near_spots places ps tile)
+pub spots_in_cells : (places : List ℕ) (ps : List WorkRows) (tile : ℕ) → All (λ (s : Spot). s.cell ≡ geo_cell s.at) (near_spots places ps tile)
 unfolding near_spots
 spots_in_cells places ps tile =
-    all_flat (λ (s : Spot). s.cell ≡ cell_of s.at) (tile_spots places ps)
-    (λ t. all_images (λ (s : Spot). s.cell ≡ cell_of s.at) (λ (n : WorkNode). Unit {0}) spot_of (λ n u. refl) (nodes_in (at_position ps (position (λ m. m == tile_number 2 t) places))) (λ k d inside. tt))
+    all_flat (λ (s : Spot). s.cell ≡ geo_cell s.at) (tile_spots places ps)
+    (λ t. all_images (λ (s : Spot). s.cell ≡ geo_cell s.at) (λ (n : WorkNode). Unit {0}) spot_of (λ n u. refl) (nodes_in (at_position ps (position (λ m. m == tile_number 2 t) places))) (λ k d inside. tt))
     (near_tiles tile)
 
 module _ (places : List ℕ) (ps : List WorkRows) (fits : FitPlaces places ps) where

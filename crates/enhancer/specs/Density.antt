@@ -5,7 +5,7 @@ use Rattle.fixed_geo.specs.declared.points.Point.{Point}
 use Rattle.fixed_geo.specs.Length.{latitude_difference, longitude_difference}
 use Rattle.work_tile.specs.WorkRows.{WorkNode, WorkRows}
 use Rattle.enhancer.specs.declared.spots.Spot.{Spot}
-use Rattle.enhancer.specs.Cells.{cell_of}
+use Rattle.enhancer.specs.Cells.{geo_cell}
 use Rattle.enhancer.specs.Graph.{rows_of}
 
 -- two places are near each other: at most 0.02 degrees apart on each axis
@@ -35,7 +35,7 @@ cut_cm cm = min 15_000_000 cm
 -- ---- how it is found: by spots, the places of nodes with the lengths of their edges
 
 abbrev pub spot_of : WorkNode → Spot
-spot_of node = record { cell = cell_of node.at; at = node.at; cm = cut_cm (sum_by (λ e. e.cm) node.edges) }
+spot_of node = record { cell = geo_cell node.at; at = node.at; cm = cut_cm (sum_by (λ e. e.cm) node.edges) }
 
 -- the length at a spot, if it is near the place
 abbrev pub spot_cm : Point → Spot → ℕ

@@ -21,20 +21,20 @@ abbrev pub rows_of : List ℕ → List WorkRows → ℕ → ℕ → Option WorkR
 rows_of places ps level tile = at_position ps (position (λ n. n == tile_number level tile) places)
 
 -- the node with this OSM id
-abbrev pub node_of : WorkRows → ℤ → Option WorkNode
-node_of rows osm = at_position rows.nodes (position (λ n. int_eq n.osm osm) rows.nodes)
+abbrev pub node_named : WorkRows → ℤ → Option WorkNode
+node_named rows osm = at_position rows.nodes (position (λ n. int_eq n.osm osm) rows.nodes)
 
 abbrev pub edges_of_node : Option WorkNode → List WorkEdge
 edges_of_node None = []
 edges_of_node (Some node) = node.edges
 
-abbrev pub edges_of_rows : ℤ → Option WorkRows → List WorkEdge
-edges_of_rows osm None = []
-edges_of_rows osm (Some rows) = edges_of_node (node_of rows osm)
+abbrev pub edges_in_rows : ℤ → Option WorkRows → List WorkEdge
+edges_in_rows osm None = []
+edges_in_rows osm (Some rows) = edges_of_node (node_named rows osm)
 
 -- the edges that start at a junction
 abbrev pub edges_at : List ℕ → List WorkRows → ℕ → NodeName → List WorkEdge
-edges_at places ps level at = edges_of_rows at.osm (rows_of places ps level at.tile)
+edges_at places ps level at = edges_in_rows at.osm (rows_of places ps level at.tile)
 
 -- the junction where an edge ends
 abbrev pub end_of : WorkEdge → NodeName

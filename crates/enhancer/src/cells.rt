@@ -5,7 +5,7 @@ ghost use Rattle.std.specs.List.Sorted.{IsNonDecreasingBy};
 ghost use Rattle.fixed_geo.specs.Place.{IsPlace};
 ghost use Rattle.tile_geometry.specs.Grid.{from_south, from_west};
 ghost use Rattle.enhancer.specs.declared.spots.Spot.{Spot};
-ghost use Rattle.enhancer.specs.Cells.{cell_of, near_cell, InCells};
+ghost use Rattle.enhancer.specs.Cells.{geo_cell, near_cell, InCells};
 ghost use Rattle.enhancer.specs.Density.{cut_cm, spot_cm};
 
 use crate::density::{ENOUGH_CM, cut_sum, near_each_other};
@@ -29,9 +29,9 @@ fn west_of(p: Point) -> u64
 }
 
 /// The number of the cell of a place.
-#[tactic(auto, unfolding(crate::specs::Cells::cell_of))]
+#[tactic(auto, unfolding(crate::specs::Cells::geo_cell))]
 pub(crate) fn cell_at(p: Point) -> u32
-    ensures value { result ≡ cell_of p }
+    ensures value { result ≡ geo_cell p }
     ensures below { result < 360_000_000 }
 {
     let row = (south_of(p) / 200_000 % 20_000) as u32;
