@@ -7,7 +7,7 @@ use Rattle.std.proofs.lemmas.List.{append-nil, take_all, take_more, map-append}
 use Rattle.std.proofs.lemmas.List.Elements.{filter-append}
 use Rattle.road_pieces.specs.declared.rows.Junction.{Junction}
 use Rattle.work_tile.specs.declared.edge_rows.WorkEdge.{WorkEdge}
-use Rattle.work_tile.specs.WorkRows.{WorkNode, WorkRows, work_node_with}
+use Rattle.work_tile.specs.WorkRows.{WorkNode, WorkRows, rated_node}
 use Rattle.access_filter.specs.Kept.{is_kept_edge, kept_node, kept_nodes, kept_rows, kept_tiles}
 use Rattle.access_filter.proofs.Filtered.{kept_more}
 use Rattle.access_filter.proofs.EdgesPut.{rows_put, ArePut}
@@ -18,19 +18,19 @@ rows_of level tile nodes = record { level = level; tile = tile; nodes = nodes }
 abbrev edges_set : WorkNode → List WorkEdge → WorkNode
 edges_set node edges = record node { edges = edges }
 
-pub node_kept : {A B : Type 0} (r : Result A B) (modes : ℕ) (node : WorkNode) (j : Junction) (before between after : WorkRows) → work_node_with j node.edges ≡ node
-    → ltb 0 (length (filter (is_kept_edge modes) node.edges)) ≡ true → between ≡ record before { nodes = before.nodes ++ work_node_with j [] ∷ [] }
+pub node_kept : {A B : Type 0} (r : Result A B) (modes : ℕ) (node : WorkNode) (j : Junction) (density : ℕ) (before between after : WorkRows) → rated_node j density node.edges ≡ node
+    → ltb 0 (length (filter (is_kept_edge modes) node.edges)) ≡ true → between ≡ record before { nodes = before.nodes ++ rated_node j density [] ∷ [] }
     → OnOk r (ArePut between after (filter (is_kept_edge modes) node.edges))
     → OnOk r (after ≡ record before { nodes = before.nodes ++ kept_nodes modes (node ∷ []) })
 unfolding kept_nodes
-node_kept (Ok u) modes node j before between after same some is put =
+node_kept (Ok u) modes node j density before between after same some is put =
     let edges = filter (is_kept_edge modes) node.edges in
-    let step : after ≡ rows_put between before.nodes (work_node_with j []) edges = put before.nodes (work_node_with j []) (ap (λ b. b.nodes) is) in
+    let step : after ≡ rows_put between before.nodes (rated_node j density []) edges = put before.nodes (rated_node j density []) (ap (λ b. b.nodes) is) in
     step
-    ∙ ap (λ (b : WorkRows). rows_of b.level b.tile (before.nodes ++ work_node_with j edges ∷ [])) is
+    ∙ ap (λ (b : WorkRows). rows_of b.level b.tile (before.nodes ++ rated_node j density edges ∷ [])) is
     ∙ ap (λ (n : WorkNode). rows_of before.level before.tile (before.nodes ++ edges_set n edges ∷ [])) same
     ∙ ap (λ b. rows_of before.level before.tile (before.nodes ++ cond b (kept_node modes node ∷ []) [])) (sym some)
-node_kept (Err u) modes node j before between after same some is put = tt
+node_kept (Err u) modes node j density before between after same some is put = tt
 
 pub node_left : (modes : ℕ) (node : WorkNode) (before : WorkRows) → ltb 0 (length (filter (is_kept_edge modes) node.edges)) ≡ false
     → before ≡ record before { nodes = before.nodes ++ kept_nodes modes (node ∷ []) }

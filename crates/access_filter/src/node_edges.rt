@@ -75,6 +75,6 @@ pub(crate) fn keep_node(
     if !has_kept(node, modes) {
         return Ok(());
     }
-    kept.push_node(node.junction())?;
+    kept.push_rated(node.junction(), node.density())?;
     keep_edges(kept, node, modes)
 }

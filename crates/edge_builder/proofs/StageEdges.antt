@@ -89,6 +89,8 @@ module _ (x : Extract) where
         class = class_of (way_tags x p.way);
         mask = 0;
         flagged = false;
+        consistency = 0;
+        not_thru = false;
       }
 
   edges_told : (n : ℕ) (ps : List DirectedPiece) → ((k : ℕ) (p : DirectedPiece) → IsIn (enumerate_from n ps) (k, p) → IsIn (directed_pieces x) p × (local_index x p ≡ k)) → map (base_edge its_junctions) (enumerate_from n (map (row_of_extract x) ps)) ≡ map (edge_of_extract x 2) ps
@@ -111,4 +113,4 @@ module _ (x : Extract) where
       let at : point_of n ≡ point x.nodes n.id = at_told x n row.there in
       let tags : n.tags ≡ node_tags x n.id = ap (λ o. option_map_or (λ m. m.tags) o []) (sym (found_node x n row.there)) in
       subst (λ j. base_node its_junctions (piece_rows x) j ≡ node_of_extract x 2 j.osm (base_edges x j.osm)) row.is
-      (λ i. record { osm = n.id; at = at i; access = node_access (tags i); barrier = is_barrier (tags i); edges = node_edges n.id i })
+      (λ i. record { osm = n.id; at = at i; access = node_access (tags i); barrier = is_barrier (tags i); density = 0; edges = node_edges n.id i })

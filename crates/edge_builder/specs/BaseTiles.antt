@@ -9,7 +9,7 @@ use Rattle.work_tile.specs.WorkRows.{WorkNode, WorkRows, work_node_with}
 use Rattle.road_walks.specs.Orders.{rising, not_none}
 use Rattle.edge_builder.specs.BaseRows.{DirectedRow, row_end, base_rows, junction_tile, junction_place, start_places, AreRoads}
 
--- the row of an edge that ends in that tile, with that local index; which turns are forbidden isn't told yet
+-- the row of an edge that ends in that tile, with that local index; which turns are forbidden, names and not-thru aren't told yet
 abbrev pub edge_row : ℕ → ℕ → DirectedRow → WorkEdge
 edge_row end_tile local e = record {
   key = record { key = e.piece.key; forward = e.forward };
@@ -23,6 +23,8 @@ edge_row end_tile local e = record {
   class = e.piece.class;
   mask = 0;
   flagged = false;
+  consistency = 0;
+  not_thru = false;
 }
 
 -- the tile of the junction with that id

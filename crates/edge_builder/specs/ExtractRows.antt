@@ -63,6 +63,8 @@ edge_of_extract x k p = record {
   class = class_of (way_tags x p.way);
   mask = 0;
   flagged = false;
+  consistency = 0;
+  not_thru = false;
 }
 
 -- the row of a node of a level with these edges
@@ -72,6 +74,7 @@ node_of_extract x k n edges = record {
   at = point x.nodes n;
   access = node_access (node_tags x n);
   barrier = is_barrier (node_tags x n);
+  density = 0;
   edges = map (edge_of_extract x k) edges;
 }
 

@@ -56,6 +56,8 @@ fn forward_edge(piece: &PieceView<'_>, place: u32, end_tile: u32, local: u8) -> 
         class: piece.class(),
         mask: 0,
         flagged: false,
+        consistency: 0,
+        not_thru: false,
     }
 }
 
@@ -79,5 +81,7 @@ fn backward_edge(piece: &PieceView<'_>, place: u32, end_tile: u32, local: u8) ->
         class: piece.class(),
         mask: 0,
         flagged: false,
+        consistency: 0,
+        not_thru: false,
     }
 }

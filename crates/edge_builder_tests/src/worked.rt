@@ -108,6 +108,8 @@ fn edge(way: i64, forward: bool, end: i64, cm: u32, local: u8) -> WorkEdge {
         class: 6,
         mask: 0,
         flagged: false,
+        consistency: 0,
+        not_thru: false,
     }
 }
 

@@ -14,7 +14,7 @@ abbrev pub no_rows : WorkRows
 no_rows = record { level = 0; tile = 0; nodes = [] }
 
 abbrev pub no_work_node : WorkNode
-no_work_node = record { osm = pos 0; at = record { lat = pos 0; lon = pos 0 }; access = 0; barrier = false; edges = [] }
+no_work_node = record { osm = pos 0; at = record { lat = pos 0; lon = pos 0 }; access = 0; barrier = false; density = 0; edges = [] }
 
 -- the tile with this number on a level
 abbrev pub has_tile_number : ℕ → ℕ → WorkRows → Bool

@@ -21,6 +21,8 @@ worked_edge way forward end end_tile local = record {
   class = 6;
   mask = 0;
   flagged = false;
+  consistency = 0;
+  not_thru = false;
 }
 
 -- a junction on the equator, open to all

@@ -34,6 +34,8 @@ fn edge(way: u32, forward: bool, end: u32, end_tile: u32, local: u8) -> WorkEdge
         class: 6,
         mask: 0,
         flagged: false,
+        consistency: 0,
+        not_thru: false,
     }
 }
 

@@ -24,6 +24,7 @@ pub record EdgeInRange (e : WorkEdge) : Type 0 where
   pub local : e.local < 2 ^ 8
   pub class : e.class < 2 ^ 8
   pub mask : e.mask < 2 ^ 8
+  pub consistency : e.consistency < 2 ^ 8
 
 edge_from : (a b c d f g : List (ℕ × ℕ)) → WorkEdge
 edge_from a b c d f g = record {
@@ -41,6 +42,8 @@ edge_from a b c d f g = record {
   class = number f 3;
   mask = number f 4;
   flagged = eqb (number f 6) 1;
+  consistency = number g 1;
+  not_thru = eqb (number f 7) 1;
 }
 
 same_parts : {a a' b b' c c' d d' f f' g g' : List (ℕ × ℕ)} → a ≡ a' → b ≡ b' → c ≡ c' → d ≡ d' → f ≡ f' → g ≡ g' → edge_from a b c d f g ≡ edge_from a' b' c' d' f' g'
@@ -67,8 +70,8 @@ module _ (back : (fields : List (ℕ × ℕ)) → FieldsFit fields → fields_fr
       (back (part e 1) (r.run, (r.piece, tt)))
       (back (part e 2) (word_below e.end r.end, tt))
       (back (part e 3) (r.end_tile, (r.cm, tt)))
-      (back (part e 4) (r.forward_access, (r.reverse_access, (r.local, (r.class, (r.mask, (bool_fits e.key.forward, (bool_fits e.flagged, tt))))))))
-      (back (part e 5) (r.place, tt)) in
+      (back (part e 4) (r.forward_access, (r.reverse_access, (r.local, (r.class, (r.mask, (bool_fits e.key.forward, (bool_fits e.flagged, (bool_fits e.not_thru, tt)))))))))
+      (back (part e 5) (r.place, (r.consistency, tt))) in
       let three : edge_from (part e 0) (part e 1) (part e 2) (part e 3) (part e 4) (part e 5) ≡ e =
-      rw (to_z-of_z w64 e.key.key.way r.way, to_z-of_z w64 e.end r.end, bool_back e.key.forward, bool_back e.flagged) refl in
+      rw (to_z-of_z w64 e.key.key.way r.way, to_z-of_z w64 e.end r.end, bool_back e.key.forward, bool_back e.flagged, bool_back e.not_thru) refl in
       one ∙ two ∙ three

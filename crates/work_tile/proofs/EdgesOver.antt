@@ -5,7 +5,7 @@ use Rattle.std.proofs.lemmas.List.{length-take, length-drop}
 use Rattle.std.proofs.lemmas.List.Sums.{sum_by-cons}
 use Rattle.work_tile.specs.declared.edge_rows.WorkEdge.{WorkEdge}
 use Rattle.work_tile.specs.declared.node_rows.NodeRow.{NodeRow}
-use Rattle.work_tile.specs.WorkRows.{WorkNode, work_node_with, first_from, nodes_over, FromsRise}
+use Rattle.work_tile.specs.WorkRows.{WorkNode, rated_node, first_from, nodes_over, FromsRise}
 use Rattle.work_tile.proofs.NodesOver.{first_inside}
 
 abbrev pub edges_at : WorkNode → ℕ
@@ -21,7 +21,7 @@ edges_over edges [] rises = omega arith
 edges_over edges (r ∷ rs) rises =
     let rest = edges_over edges rs rises.1 in
     let one = part_length edges r.from (first_from rs (length edges)) rises.0 (first_inside rs (length edges) rises.1) in
-    let both = sum_by-cons edges_at (work_node_with r.junction (slice_range edges r.from (first_from rs (length edges)))) (nodes_over edges rs) in
+    let both = sum_by-cons edges_at (rated_node r.junction r.density (slice_range edges r.from (first_from rs (length edges)))) (nodes_over edges rs) in
     omega (arith, rest, one, both)
 
 -- the edges of the nodes begin where those of the first one do

@@ -17,6 +17,7 @@ pub record NodeInRange (r : NodeRow) : Type 0 where
   pub lon : FitsSigned w32 r.junction.at.lon
   pub from : r.from < 2 ^ 32
   pub access : r.junction.access < 2 ^ 16
+  pub density : r.density < 2 ^ 8
 
 row_from : (a b c : List (ℕ × ℕ)) → NodeRow
 row_from a b c = record {
@@ -26,6 +27,7 @@ row_from a b c = record {
     access = number c 1;
     barrier = eqb (number c 2) 1;
   };
+  density = number c 3;
   from = number c 0;
 }
 
@@ -54,7 +56,7 @@ module _ (back : (fields : List (ℕ × ℕ)) → FieldsFit fields → fields_fr
       same_parts
       (back (part r 0) (word_below r.junction.osm fits.osm, tt))
       (back (part r 1) (half_below r.junction.at.lat fits.lat, (half_below r.junction.at.lon fits.lon, tt)))
-      (back (part r 2) (fits.from, (fits.access, (bool_fits r.junction.barrier, tt)))) in
+      (back (part r 2) (fits.from, (fits.access, (bool_fits r.junction.barrier, (fits.density, tt))))) in
       let three : row_from (part r 0) (part r 1) (part r 2) ≡ r =
       rw (to_z-of_z w64 r.junction.osm fits.osm, to_z-of_z w32 r.junction.at.lat fits.lat, to_z-of_z w32 r.junction.at.lon fits.lon, bool_back r.junction.barrier) refl in
       one ∙ two ∙ three

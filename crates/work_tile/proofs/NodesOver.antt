@@ -4,7 +4,7 @@ use Rattle.std.specs.Prelude.{slice_range}
 use Rattle.std.proofs.lemmas.List.{take_all, take-append-le, drop-append-le, length-drop, length-append, same_from_push}
 use Rattle.work_tile.specs.declared.edge_rows.WorkEdge.{WorkEdge}
 use Rattle.work_tile.specs.declared.node_rows.NodeRow.{NodeRow}
-use Rattle.work_tile.specs.WorkRows.{WorkNode, work_node_with, with_edge, first_from, nodes_over, FromsRise}
+use Rattle.work_tile.specs.WorkRows.{WorkNode, rated_node, with_edge, first_from, nodes_over, FromsRise}
 
 pub many_nodes : (edges : List WorkEdge) (rows : List NodeRow) → length (nodes_over edges rows) ≡ length rows
 unfolding nodes_over
@@ -19,7 +19,7 @@ first_inside [] end rises = omega arith
 first_inside (r ∷ rs) end rises = let k = first_inside rs end rises.1 in let l : r.from ≤ first_from rs end = rises.0 in omega (arith, k, l)
 
 node_at : (edges : List WorkEdge) (rows : List NodeRow) (i : ℕ) (d : WorkNode) (e : NodeRow) → i < length rows
-    → get_or (nodes_over edges rows) i d ≡ work_node_with (get_or rows i e).junction (slice_range edges (get_or rows i e).from (first_from (drop (suc i) rows) (length edges)))
+    → get_or (nodes_over edges rows) i d ≡ rated_node (get_or rows i e).junction (get_or rows i e).density (slice_range edges (get_or rows i e).from (first_from (drop (suc i) rows) (length edges)))
 unfolding nodes_over
 node_at edges [] i d e h = absurd (omega (arith, h))
 node_at edges (r ∷ rs) zero d e h = refl
@@ -45,12 +45,12 @@ module _ (rows : List NodeRow) (i end to : ℕ) (row : NodeRow) (inside : i < le
       (omega (arith, low, ends_next), omega (arith, w.1, ends_next))
 
   pub row_is : (edges : List WorkEdge) (d : WorkNode) → length edges ≡ end
-      → work_node_with row.junction (slice_range edges row.from to) ≡ get_or (nodes_over edges rows) i d
+      → rated_node row.junction row.density (slice_range edges row.from to) ≡ get_or (nodes_over edges rows) i d
   row_is edges d many =
       let at = node_at edges rows i d row inside in
-      let one : work_node_with row.junction (slice_range edges row.from to) ≡ work_node_with row.junction (slice_range edges row.from (first_from (drop (suc i) rows) (length edges))) =
-      ap (λ k. work_node_with row.junction (slice_range edges row.from k)) (ends_next ∙ ap (first_from (drop (suc i) rows)) (sym many)) in
-      one ∙ ap (λ r. work_node_with r.junction (slice_range edges r.from (first_from (drop (suc i) rows) (length edges)))) here ∙ sym at
+      let one : rated_node row.junction row.density (slice_range edges row.from to) ≡ rated_node row.junction row.density (slice_range edges row.from (first_from (drop (suc i) rows) (length edges))) =
+      ap (λ k. rated_node row.junction row.density (slice_range edges row.from k)) (ends_next ∙ ap (first_from (drop (suc i) rows)) (sym many)) in
+      one ∙ ap (λ r. rated_node r.junction r.density (slice_range edges r.from (first_from (drop (suc i) rows) (length edges)))) here ∙ sym at
 
 -- ---- one node more
 
@@ -64,14 +64,14 @@ slice_end : (edges : List WorkEdge) → slice_range edges (length edges) (length
 slice_end edges = let e : length edges - length edges ≡ 0 = omega arith in ap (λ k. take k (drop (length edges) edges)) e
 
 pub nodes_more : (edges : List WorkEdge) (rows : List NodeRow) (row : NodeRow) → row.from ≡ length edges
-    → nodes_over edges (rows ++ row ∷ []) ≡ nodes_over edges rows ++ work_node_with row.junction [] ∷ []
+    → nodes_over edges (rows ++ row ∷ []) ≡ nodes_over edges rows ++ rated_node row.junction row.density [] ∷ []
 unfolding nodes_over
-nodes_more edges [] row e = ap (λ es. work_node_with row.junction es ∷ []) (ap (λ k. slice_range edges k (length edges)) e ∙ slice_end edges)
+nodes_more edges [] row e = ap (λ es. rated_node row.junction row.density es ∷ []) (ap (λ k. slice_range edges k (length edges)) e ∙ slice_end edges)
 nodes_more edges (r ∷ []) row e =
-    ap (λ k. work_node_with r.junction (slice_range edges r.from k) ∷ nodes_over edges (row ∷ [])) e
-    ∙ ap (λ ns. work_node_with r.junction (slice_range edges r.from (length edges)) ∷ ns) (nodes_more edges [] row e)
+    ap (λ k. rated_node r.junction r.density (slice_range edges r.from k) ∷ nodes_over edges (row ∷ [])) e
+    ∙ ap (λ ns. rated_node r.junction r.density (slice_range edges r.from (length edges)) ∷ ns) (nodes_more edges [] row e)
 nodes_more edges (r ∷ s ∷ rs) row e =
-    ap (λ ns. work_node_with r.junction (slice_range edges r.from s.from) ∷ ns) (nodes_more edges (s ∷ rs) row e)
+    ap (λ ns. rated_node r.junction r.density (slice_range edges r.from s.from) ∷ ns) (nodes_more edges (s ∷ rs) row e)
 
 -- ---- one edge more
 
@@ -104,16 +104,16 @@ last_more : (edges : List WorkEdge) (edge : WorkEdge) (r : NodeRow) (rows : List
     → nodes_over (edges ++ edge ∷ []) (r ∷ rows) ≡ front ++ with_edge last edge ∷ []
 unfolding nodes_over FromsRise
 last_more edges edge r [] front last rises e =
-    let parts = same_from_push [] front (work_node_with r.junction (slice_range edges r.from (length edges))) last e in
-    ap (λ es. work_node_with r.junction es ∷ []) (slice_more edges edge r.from rises.0)
+    let parts = same_from_push [] front (rated_node r.junction r.density (slice_range edges r.from (length edges))) last e in
+    ap (λ es. rated_node r.junction r.density es ∷ []) (slice_more edges edge r.from rises.0)
     ∙ ap (λ n. with_edge n edge ∷ []) parts.1
     ∙ ap (λ f. f ++ with_edge last edge ∷ []) parts.0
 last_more edges edge r (s ∷ rs) [] last rises e = absurd (omega (arith, ap length e))
 last_more edges edge r (s ∷ rs) (f ∷ fs) last rises e =
     let inside = first_inside (s ∷ rs) (length edges) rises.1 in
-    let head : work_node_with r.junction (slice_range edges r.from s.from) ≡ f = ap (λ ns. get_or ns 0 f) e in
+    let head : rated_node r.junction r.density (slice_range edges r.from s.from) ≡ f = ap (λ ns. get_or ns 0 f) e in
     let rest : nodes_over edges (s ∷ rs) ≡ fs ++ last ∷ [] = ap (drop 1) e in
-    ap (λ es. work_node_with r.junction es ∷ nodes_over (edges ++ edge ∷ []) (s ∷ rs)) (slice_stays edges edge r.from s.from rises.0 inside)
+    ap (λ es. rated_node r.junction r.density es ∷ nodes_over (edges ++ edge ∷ []) (s ∷ rs)) (slice_stays edges edge r.from s.from rises.0 inside)
     ∙ ap (λ n. n ∷ nodes_over (edges ++ edge ∷ []) (s ∷ rs)) head
     ∙ ap (λ ns. f ∷ ns) (last_more edges edge s rs fs last rises.1 rest)
 

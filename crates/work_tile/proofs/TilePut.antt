@@ -4,7 +4,7 @@ use Rattle.std.specs.Prelude.{OnOk, OnErr}
 use Rattle.std.proofs.lemmas.List.{length-append}
 use Rattle.work_tile.specs.declared.edge_rows.WorkEdge.{WorkEdge}
 use Rattle.work_tile.specs.declared.node_rows.NodeRow.{NodeRow}
-use Rattle.work_tile.specs.WorkRows.{WorkNode, WorkRows, work_node_with, with_edge, nodes_over, FromsRise}
+use Rattle.work_tile.specs.WorkRows.{WorkNode, WorkRows, rated_node, with_edge, nodes_over, FromsRise}
 use Rattle.work_tile.proofs.NodesOver.{rises_more, rises_past, nodes_more, edge_more}
 
 -- a tile of these nodes
@@ -18,11 +18,11 @@ nodes_rise (Err u) rows more row end ok err rises e = subst (λ rs. FromsRise rs
 
 pub node_put : {A B : Type 0} (r : Result A B) (level tile : ℕ) (edges : List WorkEdge) (rows more : List NodeRow) (row : NodeRow) (before : WorkRows)
     → rows_with level tile (nodes_over edges rows) ≡ before → OnOk r (more ≡ rows ++ row ∷ []) → row.from ≡ length edges
-    → OnOk r (rows_with level tile (nodes_over edges more) ≡ record before { nodes = before.nodes ++ work_node_with row.junction [] ∷ [] })
+    → OnOk r (rows_with level tile (nodes_over edges more) ≡ record before { nodes = before.nodes ++ rated_node row.junction row.density [] ∷ [] })
 node_put (Ok u) level tile edges rows more row before is ok e =
     ap (λ rs. rows_with level tile (nodes_over edges rs)) ok
     ∙ ap (rows_with level tile) (nodes_more edges rows row e)
-    ∙ ap (λ b. rows_with b.level b.tile (b.nodes ++ work_node_with row.junction [] ∷ [])) is
+    ∙ ap (λ b. rows_with b.level b.tile (b.nodes ++ rated_node row.junction row.density [] ∷ [])) is
 node_put (Err u) level tile edges rows more row before is ok e = tt
 
 pub edges_rise : {A B : Type 0} (r : Result A B) (rows : List NodeRow) (edges more : List WorkEdge) (edge : WorkEdge) → OnOk r (more ≡ edges ++ edge ∷ []) → OnErr r (more ≡ edges)

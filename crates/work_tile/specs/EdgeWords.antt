@@ -22,7 +22,9 @@ pub record WorkEdgeLayout : Type 0 where
   pub mask : BitSpan
   pub forward : BitSpan
   pub flagged : BitSpan
+  pub not_thru : BitSpan
   pub place : BitSpan
+  pub consistency : BitSpan
 
 -- each field's word, first bit and width; the bits above the last field are spare
 abbrev pub work_edge_layout : WorkEdgeLayout
@@ -40,7 +42,9 @@ work_edge_layout = record {
   mask = span 4 48 8;
   forward = span 4 56 1;
   flagged = span 4 57 1;
+  not_thru = span 4 58 1;
   place = span 5 0 32;
+  consistency = span 5 32 8;
 }
 
 -- ---- the words
@@ -61,7 +65,9 @@ work_edge_parts e =
     ∷ (work_edge_layout.mask, e.mask)
     ∷ (work_edge_layout.forward, from_bool e.key.forward)
     ∷ (work_edge_layout.flagged, from_bool e.flagged)
+    ∷ (work_edge_layout.not_thru, from_bool e.not_thru)
     ∷ (work_edge_layout.place, e.place)
+    ∷ (work_edge_layout.consistency, e.consistency)
     ∷ []
 
 abbrev pub work_edge_word : WorkEdge → ℕ → ℕ
@@ -99,4 +105,6 @@ work_edge_of words = record {
   class = number_in words work_edge_layout.class;
   mask = number_in words work_edge_layout.mask;
   flagged = nat_eq (number_in words work_edge_layout.flagged) 1;
+  consistency = number_in words work_edge_layout.consistency;
+  not_thru = nat_eq (number_in words work_edge_layout.not_thru) 1;
 }

@@ -15,6 +15,7 @@ pub record WorkNodeLayout : Type 0 where
   pub from : BitSpan
   pub access : BitSpan
   pub barrier : BitSpan
+  pub density : BitSpan
 
 -- each field's word, first bit and width; the bits above the last field are spare
 abbrev pub work_node_layout : WorkNodeLayout
@@ -25,6 +26,7 @@ work_node_layout = record {
   from = span 2 0 32;
   access = span 2 32 16;
   barrier = span 2 48 1;
+  density = span 2 49 8;
 }
 
 -- ---- the words
@@ -38,6 +40,7 @@ work_node_parts r =
     ∷ (work_node_layout.from, r.from)
     ∷ (work_node_layout.access, r.junction.access)
     ∷ (work_node_layout.barrier, from_bool r.junction.barrier)
+    ∷ (work_node_layout.density, r.density)
     ∷ []
 
 abbrev pub work_node_word : NodeRow → ℕ → ℕ
@@ -59,5 +62,6 @@ work_node_of words = record {
     access = number_in words work_node_layout.access;
     barrier = nat_eq (number_in words work_node_layout.barrier) 1;
   };
+  density = number_in words work_node_layout.density;
   from = number_in words work_node_layout.from;
 }

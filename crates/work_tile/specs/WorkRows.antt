@@ -10,6 +10,7 @@ pub record WorkNode : Type 0 where
   pub at : Point
   pub access : ℕ
   pub barrier : Bool
+  pub density : ℕ
   pub edges : List WorkEdge
 
 pub record WorkRows : Type 0 where
@@ -17,15 +18,20 @@ pub record WorkRows : Type 0 where
   pub tile : ℕ
   pub nodes : List WorkNode
 
--- the node of a junction, with these edges
-abbrev pub work_node_with : Junction → List WorkEdge → WorkNode
-work_node_with junction edges = record {
+-- the node of a junction, with a density and these edges
+abbrev pub rated_node : Junction → ℕ → List WorkEdge → WorkNode
+rated_node junction density edges = record {
   osm = junction.osm;
   at = junction.at;
   access = junction.access;
   barrier = junction.barrier;
+  density = density;
   edges = edges;
 }
+
+-- .. where no density is told yet
+abbrev pub work_node_with : Junction → List WorkEdge → WorkNode
+work_node_with junction edges = rated_node junction 0 edges
 
 -- the node with one more edge behind its others
 abbrev pub with_edge : WorkNode → WorkEdge → WorkNode
@@ -42,7 +48,7 @@ first_from (r ∷ rs) end = r.from
 unfoldable pub nodes_over : List WorkEdge → List NodeRow → List WorkNode
 nodes_over edges [] = []
 nodes_over edges (r ∷ rs) =
-    work_node_with r.junction (slice_range edges r.from (first_from rs (length edges))) ∷ nodes_over edges rs
+    rated_node r.junction r.density (slice_range edges r.from (first_from rs (length edges))) ∷ nodes_over edges rs
 
 -- no node's edges begin behind those of the next, nor behind the end of all edges
 unfoldable pub FromsRise : List NodeRow → ℕ → Type 0

@@ -16,7 +16,9 @@ const WIDTH: usize = 6;
 /// pieces that start at its junction. `forward_access` has a bit for each mode that may use it as it runs,
 /// `reverse_access` for each that may use it the other way: auto 1, pedestrian 2, bicycle 4, truck 8, bus 64. `class`
 /// is from 0, motorway, to 7. `mask` has a bit for each directed piece, by its local index at the end, to which no
-/// vehicle may turn. `flagged` tells that a longer turn that is forbidden runs over its piece.
+/// vehicle may turn. `flagged` tells that a longer turn that is forbidden runs over its piece. Bit k of `consistency` is
+/// set where the directed piece with local index k at the end, for k below 8, has a name in common with it.
+/// `not_thru` tells that few junctions lie behind it, without a way back past it.
 #[derive(Clone, Copy, Debug, PartialEq, Eq)]
 pub struct WorkEdge {
     pub key: DirKey,
@@ -30,6 +32,8 @@ pub struct WorkEdge {
     pub class: u8,
     pub mask: u8,
     pub flagged: bool,
+    pub consistency: u8,
+    pub not_thru: bool,
 }
 
 /// The run and the piece.
@@ -57,6 +61,14 @@ fn access_word(edge: &WorkEdge) -> u64
         + (u64::from(edge.mask) << 48)
         + (u64::from(edge.key.forward) << 56)
         + (u64::from(edge.flagged) << 57)
+        + (u64::from(edge.not_thru) << 58)
+}
+
+/// The place of the piece, and the name consistency.
+fn place_word(edge: &WorkEdge) -> u64
+    ensures { result ≡ work_edge_word edge.now 5 }
+{
+    u64::from(edge.place) + (u64::from(edge.consistency) << 32)
 }
 
 /// The words of an edge.
@@ -70,7 +82,7 @@ fn words_of(edge: &WorkEdge) -> [u64; WIDTH]
         edge.end.cast_unsigned(),
         end_word(edge),
         access_word(edge),
-        u64::from(edge.place),
+        place_word(edge),
     ]
 }
 
@@ -99,6 +111,8 @@ fn edge_in(words: &[u64]) -> WorkEdge
         class: get(words[4], 40, 8) as u8,
         mask: get(words[4], 48, 8) as u8,
         flagged: get(words[4], 57, 1) == 1,
+        consistency: get(words[5], 32, 8) as u8,
+        not_thru: get(words[4], 58, 1) == 1,
     }
 }
 

@@ -11,10 +11,11 @@ use std::marker::Model;
 /// The words of a row.
 const WIDTH: usize = 3;
 
-/// A junction, and where its edges begin among those of its tile.
+/// A junction with its density, and where its edges begin among those of its tile.
 #[derive(Clone, Copy, Debug)]
 pub(crate) struct NodeRow {
     pub junction: Junction,
+    pub density: u8,
     pub from: u32,
 }
 
@@ -26,13 +27,14 @@ fn position_word(row: &NodeRow) -> u64
         + (u64::from(row.junction.at.lon.cast_unsigned()) << 32)
 }
 
-/// Where its edges begin, the access and the barrier.
+/// Where its edges begin, the access, the barrier and the density.
 fn access_word(row: &NodeRow) -> u64
     ensures { result ≡ work_node_word row.now 2 }
 {
     u64::from(row.from)
         + (u64::from(row.junction.access) << 32)
         + (u64::from(row.junction.barrier) << 48)
+        + (u64::from(row.density) << 49)
 }
 
 /// The words of a row.
@@ -63,6 +65,7 @@ fn row_in(words: &[u64]) -> NodeRow
             access: get(words[2], 32, 16) as u16,
             barrier: get(words[2], 48, 1) == 1,
         },
+        density: get(words[2], 49, 8) as u8,
         from: get(words[2], 0, 32) as u32,
     }
 }

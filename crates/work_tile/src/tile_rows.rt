@@ -1,6 +1,6 @@
 //! The nodes of a tile, each with the edges that start there.
 ghost use Rattle.std.specs.Prelude.{◌≡◌, ◌<◌, ◌≤◌, ◌+◌, ◌++◌, ◌∷◌, [], List, length, OnOk, OnErr, slice_index_or, drop, sum_by};
-ghost use Rattle.work_tile.specs.WorkRows.{WorkNode, work_node_with, with_edge, first_from};
+ghost use Rattle.work_tile.specs.WorkRows.{WorkNode, work_node_with, rated_node, with_edge, first_from};
 
 use crate::edge_rows::{EdgeRows, WorkEdge};
 use crate::node_rows::{NodeRow, NodeRows};
@@ -63,12 +63,21 @@ impl TileRows {
         ensures ok { OnOk result (self.new ≡ record self.old { nodes = self.old.nodes ++ work_node_with junction [] ∷ [] }) }
         ensures err { OnErr result (self.new ≡ self.old) }
     {
+        self.push_rated(junction, 0)
+    }
+
+    /// Puts the node of a junction with this density after the last one, as `push_node` does.
+    pub fn push_rated(&mut self, junction: Junction, density: u8) -> Result<(), AllocError>
+        ensures ok { OnOk result (self.new ≡ record self.old { nodes = self.old.nodes ++ rated_node junction density [] ∷ [] }) }
+        ensures err { OnErr result (self.new ≡ self.old) }
+    {
         let from = self.edges.len();
         if from > u32::MAX as usize {
             return Err(AllocError);
         }
         self.nodes.push(NodeRow {
             junction,
+            density,
             from: from as u32,
         })
     }
@@ -122,6 +131,7 @@ impl TileRows {
         let row = self.nodes.at(i);
         NodeView {
             junction: row.junction,
+            density: row.density,
             edges: &self.edges,
             from: row.from as usize,
             to: edges_end(&self.nodes, &self.edges, i),
@@ -133,6 +143,7 @@ impl TileRows {
 #[derive(Debug, Drop)]
 pub struct NodeView<'a> {
     junction: Junction,
+    density: u8,
     edges: &'a EdgeRows,
     from: usize,
     to: usize,
@@ -140,19 +151,19 @@ pub struct NodeView<'a> {
 
 impl<'a> Model for NodeView<'a> {
     ghost use Rattle.std.specs.Prelude.{◌≤◌, length, slice_range};
-    ghost use Rattle.work_tile.specs.WorkRows.{WorkNode, work_node_with};
+    ghost use Rattle.work_tile.specs.WorkRows.{WorkNode, rated_node};
 
     ghost Value = { WorkNode };
 
-    ghost view = { λ v. work_node_with v.junction (slice_range v.edges.now v.from v.to) };
+    ghost view = { λ v. rated_node v.junction v.density (slice_range v.edges.now v.from v.to) };
 
     ghost invariant = { λ v. (v.from ≤ v.to) × (v.to ≤ length v.edges.now) };
 }
 
 impl<'a> NodeView<'a> {
-    /// The node without its edges.
+    /// The node without its edges and its density.
     pub fn junction(&self) -> Junction
-        ensures { work_node_with result self.now.edges ≡ self.now }
+        ensures { rated_node result self.now.density self.now.edges ≡ self.now }
     {
         self.junction
     }
@@ -183,6 +194,13 @@ impl<'a> NodeView<'a> {
         ensures { result ≡ self.now.barrier }
     {
         self.junction.barrier
+    }
+
+    /// Its density, from 0 to 15; 0 where none is told yet.
+    pub fn density(&self) -> u8
+        ensures { result ≡ self.now.density }
+    {
+        self.density
     }
 
     /// The number of edges that start there.

@@ -37,6 +37,8 @@ fn edge(way: i64, forward_access: u16, reverse_access: u16) -> WorkEdge {
         class: 6,
         mask: 0,
         flagged: false,
+        consistency: 0,
+        not_thru: false,
     }
 }
 

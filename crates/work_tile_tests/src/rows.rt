@@ -25,6 +25,8 @@ const EXTREME: WorkEdge = WorkEdge {
     class: 7,
     mask: 255,
     flagged: false,
+    consistency: 255,
+    not_thru: true,
 };
 
 /// The junction with an id.

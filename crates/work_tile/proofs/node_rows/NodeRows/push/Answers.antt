@@ -10,7 +10,7 @@ unfolding work_node_words
 returns-in-Ok-clause-ok c =
     let words = c.self.inside.words.items in
     let count = c.self.inside.count in
-    let range : NodeInRange c.args.row = record { osm = search rules; lat = search rules; lon = search rules; from = search rules; access = search rules } in
+    let range : NodeInRange c.args.row = record { osm = search rules; lat = search rules; lon = search rules; from = search rules; access = search rules; density = search rules } in
     ap (packed_rows work_node_of 3 (count + 1)) (c.in-Ok.ensures.items ∙ ap (λ ws. words ++ ws) c.words_of-words.ensures)
     ∙ rows_more work_node_of 3 count words (work_node_words c.args.row) c.self.invariant refl
     ∙ ap (λ r. packed_rows work_node_of 3 count words ++ r ∷ []) (row_again c.word_and_fields.ensures.back c.args.row range)

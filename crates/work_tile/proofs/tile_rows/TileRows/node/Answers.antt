@@ -1,6 +1,6 @@
 use Rattle.std.proofs.Common.{◌<◌, length, get_or, refl, ap, ◌∙◌, arith}
 use Rattle.std.specs.Prelude.{slice_range}
-use Rattle.work_tile.specs.WorkRows.{WorkNode, work_node_with}
+use Rattle.work_tile.specs.WorkRows.{WorkNode, rated_node}
 use Rattle.work_tile.proofs.NodesOver.{many_nodes, row_inside, row_is}
 use Rattle.work_tile.proofs.tile_rows.TileRows.node.Goals as goal
 
@@ -16,7 +16,7 @@ invariant_of-result c =
     row_inside c.self.inside.nodes c.args.i (length c.self.inside.edges) c.edges_end.result c.at-row.result inside c.at-row.ensures c.edges_end.ensures c.self.invariant
 
 abbrev view : goal.After-edges_end → WorkNode
-view c = work_node_with c.at-row.result.junction (slice_range c.self.inside.edges c.at-row.result.from c.edges_end.result)
+view c = rated_node c.at-row.result.junction c.at-row.result.density (slice_range c.self.inside.edges c.at-row.result.from c.edges_end.result)
 
 pub returns : goal.returns
 returns c =

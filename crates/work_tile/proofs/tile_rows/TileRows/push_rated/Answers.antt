@@ -1,5 +1,5 @@
 use Rattle.work_tile.proofs.TilePut.{nodes_rise, node_put}
-use Rattle.work_tile.proofs.tile_rows.TileRows.push_node.Goals as goal
+use Rattle.work_tile.proofs.tile_rows.TileRows.push_rated.Goals as goal
 
 pub invariant_of-self : goal.invariant_of-self
 invariant_of-self c = nodes_rise c.push.result c.self.inside.nodes c.push.new.self _ _ c.push.ensures.ok c.push.ensures.err c.self.invariant c.len-from.ensures
