@@ -7,7 +7,7 @@ use Rattle.std.proofs.lemmas.List.{append-nil, append_assoc, length-append, map-
 use Rattle.std.proofs.lemmas.List.Elements.{filter-append, filter_more}
 use Rattle.road_pieces.specs.declared.rows.Junction.{Junction}
 use Rattle.work_tile.specs.declared.edge_rows.WorkEdge.{WorkEdge}
-use Rattle.work_tile.specs.WorkRows.{WorkNode, WorkRows, work_node_with}
+use Rattle.work_tile.specs.WorkRows.{WorkNode, WorkRows, rated_node}
 use Rattle.hierarchy.specs.Lifted.{is_on_level, lifted_edge, lifted_node}
 
 -- ---- what a filter finds in a list, element by element
@@ -98,14 +98,14 @@ rows_of level tile nodes = record { level = level; tile = tile; nodes = nodes }
 abbrev edges_set : WorkNode → List WorkEdge → WorkNode
 edges_set node edges = record node { edges = edges }
 
-pub node_lifted : {A B : Type 0} (r : Result A B) (k : ℕ) (node : WorkNode) (j : Junction) (before between after : WorkRows) → work_node_with j node.edges ≡ node
-    → between ≡ record before { nodes = before.nodes ++ work_node_with j [] ∷ [] }
+pub node_lifted : {A B : Type 0} (r : Result A B) (k : ℕ) (node : WorkNode) (j : Junction) (density : ℕ) (before between after : WorkRows) → rated_node j density node.edges ≡ node
+    → between ≡ record before { nodes = before.nodes ++ rated_node j density [] ∷ [] }
     → OnOk r (ArePut between after (edges_on k node.edges))
     → OnOk r (after ≡ record before { nodes = before.nodes ++ lifted_node k node ∷ [] })
-node_lifted (Ok u) k node j before between after same is put =
+node_lifted (Ok u) k node j density before between after same is put =
     let edges = edges_on k node.edges in
-    let step : after ≡ rows_put between before.nodes (work_node_with j []) edges = put before.nodes (work_node_with j []) (ap (λ b. b.nodes) is) in
+    let step : after ≡ rows_put between before.nodes (rated_node j density []) edges = put before.nodes (rated_node j density []) (ap (λ b. b.nodes) is) in
     step
-    ∙ ap (λ (b : WorkRows). rows_of b.level b.tile (before.nodes ++ work_node_with j edges ∷ [])) is
+    ∙ ap (λ (b : WorkRows). rows_of b.level b.tile (before.nodes ++ rated_node j density edges ∷ [])) is
     ∙ ap (λ (n : WorkNode). rows_of before.level before.tile (before.nodes ++ edges_set n edges ∷ [])) same
-node_lifted (Err u) k node j before between after same is put = tt
+node_lifted (Err u) k node j density before between after same is put = tt

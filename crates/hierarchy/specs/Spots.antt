@@ -26,7 +26,7 @@ placed_nodes k tiles = flat_map (λ t. placed_from k t.tile t.nodes) tiles
 
 -- what stands for no node, and for no tile
 abbrev pub no_node : WorkNode
-no_node = record { osm = pos 0; at = record { lat = pos 0; lon = pos 0 }; access = 0; barrier = false; edges = [] }
+no_node = record { osm = pos 0; at = record { lat = pos 0; lon = pos 0 }; access = 0; barrier = false; density = 0; edges = [] }
 
 abbrev pub no_rows : WorkRows
 no_rows = record { level = 0; tile = 0; nodes = [] }

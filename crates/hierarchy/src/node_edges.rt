@@ -70,6 +70,6 @@ pub(crate) fn push_lifted(
 ) -> Result<(), AllocError>
     ensures { OnOk result (rows.new ≡ record rows.old { nodes = rows.old.nodes ++ lifted_node level node.now ∷ [] }) }
 {
-    rows.push_node(node.junction())?;
+    rows.push_rated(node.junction(), node.density())?;
     push_edges(rows, node, level)
 }

@@ -43,6 +43,8 @@ fn edge(way: i64, class: u8, end_tile: u32) -> WorkEdge {
         class,
         mask: 0,
         flagged: false,
+        consistency: 0,
+        not_thru: false,
     }
 }
 
