@@ -1,15 +1,16 @@
 -- The limits that roads pass behind those of pieces.
-use Rattle.std.proofs.Common.{◌≡◌, ℕ, ◌<◌, refl, sym, ap, subst, ◌∙◌, List, [], ◌∷◌, length, map, filter, Bool, true, false, cond, nat_lt, arith}
+use Rattle.std.proofs.Common.{◌≡◌, ℕ, ◌<◌, ◌≤◌, refl, sym, ap, subst, ◌∙◌, List, [], ◌∷◌, length, map, filter, Bool, true, false, cond, nat_lt, arith}
 use Rattle.std.specs.Prelude.{All, Option, Some, None}
 use Rattle.std.specs.Option.{option_map, option_or}
-use Rattle.std.proofs.lemmas.List.Elements.{All-cons, All-nil, All-head, All-tail}
+use Rattle.std.proofs.lemmas.List.Elements.{All-cons, All-nil, All-head, All-tail, All-append}
 use Rattle.fixed_geo.specs.declared.points.Point.{Point}
 use Rattle.tile_geometry.specs.Grid.{grid_tile}
 use Rattle.road_pieces.specs.declared.rows.Junction.{Junction}
 use Rattle.road_pieces.specs.declared.rows.Piece.{Piece}
-use Rattle.road_walks.specs.Orders.{put_in, rising}
+use Rattle.road_walks.specs.Orders.{put_in, rising, not_none}
 use Rattle.work_tile.specs.WorkRows.{WorkNode, WorkRows}
 use Rattle.access_filter.specs.Kept.{kept_rows, kept_tiles}
+use Rattle.hierarchy.specs.Lifted.{tile_over, lifted_nodes, lifted_tile, level_numbers, tiles_of_level, lifted_tiles}
 use Rattle.edge_builder.specs.BaseRows.{crowded, junction_tile}
 use Rattle.edge_builder.specs.BaseTiles.{base_tile, base_tiles_of}
 use Rattle.folder_spec.proofs.TilesLow.{tiles_low}
@@ -33,9 +34,43 @@ low_put c (d ∷ cs) here there = by (nat_lt c d) (nat_lt d c) (All-head IsLowNu
     by false true low rest put = All-cons IsLowNumber d (put_in nat_lt c cs) low put
     by false false low rest put = there
 
-low_rising : (js : List Junction) → All IsLowNumber (rising nat_lt (map junction_tile js))
-low_rising [] = All-nil IsLowNumber
-low_rising (j ∷ js) = low_put (junction_tile j) (rising nat_lt (map junction_tile js)) (tiles_low 2 j.at) (low_rising js)
+low_rising : (cs : List ℕ) → All IsLowNumber cs → All IsLowNumber (rising nat_lt cs)
+low_rising [] low = All-nil IsLowNumber
+low_rising (c ∷ cs) low = low_put c (rising nat_lt cs) (All-head IsLowNumber c cs low) (low_rising cs (All-tail IsLowNumber c cs low))
+
+low_junctions : (js : List Junction) → All IsLowNumber (map junction_tile js)
+low_junctions [] = All-nil IsLowNumber
+low_junctions (j ∷ js) = All-cons IsLowNumber (junction_tile j) (map junction_tile js) (tiles_low 2 j.at) (low_junctions js)
+
+-- ---- and so have those over them
+
+abbrev KeepsLow : ℕ → Type 0
+KeepsLow k = (c : ℕ) → IsLowNumber c → IsLowNumber (tile_over k c)
+
+low_over : (k : ℕ) → KeepsLow k → (test : WorkRows → Bool) (ts : List WorkRows) → All IsLowTile ts → All IsLowNumber (map (λ t. tile_over k t.tile) (filter test ts))
+low_over k over test [] low = All-nil IsLowNumber
+low_over k over test (t ∷ ts) low = by (test t) (over t.tile (All-head IsLowTile t ts low).tile) (low_over k over test ts (All-tail IsLowTile t ts low))
+  where
+    by : (b : Bool) → IsLowNumber (tile_over k t.tile) → All IsLowNumber (map (λ s. tile_over k s.tile) (filter test ts)) → All IsLowNumber (map (λ s. tile_over k s.tile) (cond b (t ∷ filter test ts) (filter test ts)))
+    by true here rest = All-cons IsLowNumber (tile_over k t.tile) (map (λ s. tile_over k s.tile) (filter test ts)) here rest
+    by false here rest = rest
+
+low_tiles : (k : ℕ) → k ≤ 2 → (ts : List WorkRows) (cs : List ℕ) → All IsLowNumber cs → All IsLowTile (map (lifted_tile ts k) cs)
+low_tiles k level ts [] low = All-nil IsLowTile
+low_tiles k level ts (c ∷ cs) low =
+    All-cons IsLowTile (lifted_tile ts k c) (map (lifted_tile ts k) cs) (record { level = level; tile = All-head IsLowNumber c cs low }) (low_tiles k level ts cs (All-tail IsLowNumber c cs low))
+
+low_level : (k : ℕ) → k ≤ 2 → KeepsLow k → (ts : List WorkRows) → All IsLowTile ts → All IsLowTile (tiles_of_level ts k)
+unfolding tiles_of_level
+low_level k level over ts low =
+    low_tiles k level ts (level_numbers ts k) (low_rising (map (λ t. tile_over k t.tile) (filter (λ t. not_none (lifted_nodes k t)) ts)) (low_over k over (λ t. not_none (lifted_nodes k t)) ts low))
+
+low_lifted : (ts : List WorkRows) → All IsLowTile ts → All IsLowTile (lifted_tiles ts)
+unfolding lifted_tiles
+low_lifted ts low =
+    All-append IsLowTile (tiles_of_level ts 0) _ (low_level 0 (omega arith) (λ c h. omega (arith, h)) ts low)
+    (All-append IsLowTile (tiles_of_level ts 1) _ (low_level 1 (omega arith) (λ c h. omega (arith, h)) ts low)
+    (All-append IsLowTile (tiles_of_level ts 2) [] (low_level 2 (omega arith) (λ c h. omega (arith, h)) ts low) (All-nil IsLowTile)))
 
 module _ (asked : ℕ) (js : List Junction) (ps : List Piece) where
   low_kept : (cs : List ℕ) → All IsLowNumber cs → All IsLowTile (kept_tiles asked (map (base_tile js ps) cs))
@@ -49,7 +84,7 @@ module _ (asked : ℕ) (js : List Junction) (ps : List Piece) where
       by false rest = rest
 
   tiles_are_low : All IsLowTile (lifted_of_roads asked js ps)
-  tiles_are_low = low_kept (rising nat_lt (map junction_tile js)) (low_rising js)
+  tiles_are_low = low_lifted (kept_of_roads asked js ps) (low_kept (rising nat_lt (map junction_tile js)) (low_rising (map junction_tile js) (low_junctions js)))
 
   -- ---- what is passed
 

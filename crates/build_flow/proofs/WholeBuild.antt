@@ -10,6 +10,7 @@ use Rattle.road_pieces.specs.Rows.{junction_rows, piece_rows, refusal}
 use Rattle.road_pieces.specs.RoadsOf.{RoadsOf}
 use Rattle.edge_builder.specs.BaseRows.{AreRoads}
 use Rattle.edge_builder.specs.RoadLaws.{ExtractRoads}
+use Rattle.kept_rows.specs.KeptRows.{KeptOwnNodes}
 use Rattle.kept_checks.specs.KeptChecks.{IsSpellable, LiftedAreFinishable}
 use Rattle.level_tiles.specs.LevelTiles.{LiftedMakeTiles}
 use Rattle.build_flow.specs.declared.faults.FlowFault.{FlowFault}
@@ -20,10 +21,11 @@ use Rattle.build_flow.proofs.ByObjects.{tiles_by_rows, limit_by_rows}
 
 module _ (x : Extract) (asked : ℕ) where
   -- the roads of an extract can be built
-  pub can_be_built : ExtractRoads → LiftedAreFinishable → (roads : Roads) → RoadsOf x roads → All IsSpellable roads.pieces → refusal (piece_rows x) ≡ None → CanBeBuilt asked roads.junctions roads.pieces
-  can_be_built extract finish roads of spell within =
+  pub can_be_built : ExtractRoads → KeptOwnNodes → LiftedAreFinishable → (roads : Roads) → RoadsOf x roads → All IsSpellable roads.pieces → refusal (piece_rows x) ≡ None → CanBeBuilt asked roads.junctions roads.pieces
+  can_be_built extract own finish roads of spell within =
       let rows : CanBeBuilt asked (junction_rows x) (piece_rows x) = record {
         roads = subst (λ js. AreRoads js (piece_rows x)) of.junctions (subst (AreRoads roads.junctions) of.pieces (extract x roads of within));
+        own = own x asked;
         tiles = λ none room. finish x asked (subst (All IsSpellable) of.pieces spell) within none room;
       } in
       subst (λ js. CanBeBuilt asked js roads.pieces) (sym of.junctions) (subst (CanBeBuilt asked (junction_rows x)) (sym of.pieces) rows)

@@ -15,6 +15,7 @@ use Rattle.edge_builder.specs.BaseRows.{AreRoads, crowded}
 use Rattle.edge_builder.specs.BaseTiles.{base_tiles_of}
 use Rattle.access_filter.specs.Kept.{kept_tiles}
 use Rattle.hierarchy.specs.Lifted.{lifted_tiles}
+use Rattle.hierarchy.specs.Spots.{OwnNodes}
 use Rattle.tile_numbers.specs.declared.room.TheConstants.{MOST_RECORDS}
 use Rattle.tile_numbers.specs.declared.room.What.TheVariants as kinds
 use Rattle.tile_numbers.specs.Limits.{HasRoom}
@@ -112,4 +113,5 @@ limit_of_roads asked junctions pieces = option_or (some_limit limit_of_base (cro
 -- roads whose tiles can be finished, where they pass no limit
 pub record CanBeBuilt (asked : ℕ) (junctions : List Junction) (pieces : List Piece) : Type 0 where
   pub roads : AreRoads junctions pieces
+  pub own : OwnNodes (kept_of_roads asked junctions pieces)
   pub tiles : crowded junctions pieces ≡ None → All HasRoom (lifted_of_roads asked junctions pieces) → AreFinishable (lifted_of_roads asked junctions pieces) pieces

@@ -7,16 +7,18 @@ ghost use Rattle.road_pieces.specs.Rows.{piece_rows, refusal};
 ghost use Rattle.road_pieces.specs.RoadsOf.{RoadsOf};
 ghost use Rattle.edge_builder.specs.declared.faults.BaseFault.{BaseFault};
 ghost use Rattle.edge_builder.specs.BaseRows.{AreRoads, crowded};
+ghost use Rattle.hierarchy.specs.Spots.{OwnNodes};
 ghost use Rattle.build_flow.specs.Unbuilt.{unbuilt};
-ghost use Rattle.build_flow.specs.FolderFiles.{tile_file, folder_files, lifted_of_roads, tiles_of_roads, limit_of_roads, limit_passed, CanBeBuilt, IsFault};
+ghost use Rattle.build_flow.specs.FolderFiles.{tile_file, folder_files, kept_of_roads, lifted_of_roads, tiles_of_roads, limit_of_roads, limit_passed, CanBeBuilt, IsFault};
 
 use crate::faults::FlowFault;
 use crate::files::files_of;
 use access_filter::keep;
-use hierarchy::lift;
 use edge_builder::{BaseFault, base_tiles, extract_roads};
+use hierarchy::lift;
 use host_port::HostFiles;
 use kept_checks::{lifted_are_finishable, pieces_spell};
+use kept_rows::kept_own_nodes;
 use level_tiles::lifted_make_tiles;
 use osm_model::Extract;
 use road_pieces::{CutFault, Roads, cut};
@@ -39,6 +41,7 @@ pub fn folder_of(alloc: Global, extract: Extract, modes: u16) -> Result<HostFile
     ensures refused { IfErr result (λ fault. IsFault (limit_passed extract modes) fault) }
 {
     extract_roads();
+    kept_own_nodes();
     lifted_are_finishable();
     lifted_make_tiles();
     match roads_of(alloc, extract) {
@@ -78,7 +81,8 @@ fn files_of_roads(alloc: Global, roads: &Roads, modes: u16) -> Result<HostFiles,
 
 /// The base tiles of roads, and on its levels what is kept of them.
 fn lifted_of(alloc: Global, roads: &Roads, modes: u16) -> Result<Vec<WorkTile>, BaseFault>
-    requires { AreRoads roads.now.junctions roads.now.pieces }
+    requires roads { AreRoads roads.now.junctions roads.now.pieces }
+    requires own { OwnNodes (kept_of_roads modes roads.now.junctions roads.now.pieces) }
     ensures tiles { IfOk result (λ tiles. tiles.items ≡ lifted_of_roads modes roads.now.junctions roads.now.pieces) }
     ensures accepted { OnOk result (crowded roads.now.junctions roads.now.pieces ≡ None) }
     ensures refused { IfErr result (λ fault. (fault ≡ BaseFault.OutOfMemory) ⊎ (crowded roads.now.junctions roads.now.pieces ≡ Some fault)) }

@@ -73,7 +73,7 @@ module _ (x : Extract) where
       get_or-map junction_tile its_junctions place no_junction 0 low
       ∙ (tile_told x j (in_at its_junctions place no_junction j low refl) ∙ ap (node_tile x 2) (id ∙ row_ends x p))
 
-  edge_told : (k : ℕ) (p : DirectedPiece) → IsIn (directed_pieces x) p → local_index x p ≡ k → base_edge its_junctions (k, row_of_extract x p) ≡ edge_of_extract x p
+  edge_told : (k : ℕ) (p : DirectedPiece) → IsIn (directed_pieces x) p → local_index x p ≡ k → base_edge its_junctions (k, row_of_extract x p) ≡ edge_of_extract x 2 p
   edge_told k p h local =
       let tile = end_told p h in
       let at : k ≡ local_index x p = sym local in
@@ -91,24 +91,24 @@ module _ (x : Extract) where
         flagged = false;
       }
 
-  edges_told : (n : ℕ) (ps : List DirectedPiece) → ((k : ℕ) (p : DirectedPiece) → IsIn (enumerate_from n ps) (k, p) → IsIn (directed_pieces x) p × (local_index x p ≡ k)) → map (base_edge its_junctions) (enumerate_from n (map (row_of_extract x) ps)) ≡ map (edge_of_extract x) ps
+  edges_told : (n : ℕ) (ps : List DirectedPiece) → ((k : ℕ) (p : DirectedPiece) → IsIn (enumerate_from n ps) (k, p) → IsIn (directed_pieces x) p × (local_index x p ≡ k)) → map (base_edge its_junctions) (enumerate_from n (map (row_of_extract x) ps)) ≡ map (edge_of_extract x 2) ps
   edges_told n [] told = refl
   edges_told n (p ∷ ps) told =
       let (there, local) = told n p (inl refl) in
       λ i. edge_told n p there local i ∷ edges_told (n + 1) ps (λ k q h. told k q (inr h)) i
 
-  node_edges : (n : ℤ) → map (base_edge its_junctions) (enumerate_from 0 (base_rows (piece_rows x) n)) ≡ map (edge_of_extract x) (base_edges x n)
+  node_edges : (n : ℤ) → map (base_edge its_junctions) (enumerate_from 0 (base_rows (piece_rows x) n)) ≡ map (edge_of_extract x 2) (base_edges x n)
   node_edges n =
       ap (λ rs. map (base_edge its_junctions) (enumerate_from 0 rs)) (base_told x n)
       ∙ edges_told 0 (base_edges x n) (λ k p h. let (there, starts) = of_filter (λ q. int_eq (piece_start x q) n) (directed_pieces x) p (numbered_in 0 (base_edges x n) (k, p) h) in
       (there, local_is x n k p h ((signed_Decides (piece_start x p) n).0 starts)))
 
   -- the node of a junction
-  pub node_told : (j : Junction) → IsIn its_junctions j → base_node its_junctions (piece_rows x) j ≡ node_of_extract x j.osm (base_edges x j.osm)
+  pub node_told : (j : Junction) → IsIn its_junctions j → base_node its_junctions (piece_rows x) j ≡ node_of_extract x 2 j.osm (base_edges x j.osm)
   node_told j h =
       let row : IsRowOf x j = junction_of x j h in
       let n : OsmNode = row.node in
       let at : point_of n ≡ point x.nodes n.id = at_told x n row.there in
       let tags : n.tags ≡ node_tags x n.id = ap (λ o. option_map_or (λ m. m.tags) o []) (sym (found_node x n row.there)) in
-      subst (λ j. base_node its_junctions (piece_rows x) j ≡ node_of_extract x j.osm (base_edges x j.osm)) row.is
+      subst (λ j. base_node its_junctions (piece_rows x) j ≡ node_of_extract x 2 j.osm (base_edges x j.osm)) row.is
       (λ i. record { osm = n.id; at = at i; access = node_access (tags i); barrier = is_barrier (tags i); edges = node_edges n.id i })

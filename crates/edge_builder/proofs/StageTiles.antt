@@ -102,14 +102,14 @@ module _ (x : Extract) where
       let its_tile : junction_tile j ≡ c = tile_told x j there ∙ (ap (node_tile x 2) (id ∙ starts) ∙ eqb-true (node_tile x 2 n) c tile) in
       subst (IsIn (ids_in c)) (id ∙ starts) (in_map (λ j. j.osm) (junctions_in js c) j (in_filter (λ j. nat_eq (junction_tile j) c) js j there (eq-eqb (junction_tile j) c its_tile))))
 
-  nodes_told : (is : List Junction) → ((j : Junction) → IsIn is j → IsIn js j) → map (base_node js ps) is ≡ map (λ n. node_of_extract x n.osm n.edges) (map (stage_node x (node_tile x) ds) (map (λ j. j.osm) is))
+  nodes_told : (is : List Junction) → ((j : Junction) → IsIn is j → IsIn js j) → map (base_node js ps) is ≡ map (λ n. node_of_extract x 2 n.osm n.edges) (map (stage_node x (node_tile x) ds) (map (λ j. j.osm) is))
   nodes_told [] inside = refl
   nodes_told (j ∷ is) inside = λ i. node_told x j (inside j (inl refl)) i ∷ nodes_told is (λ k h. inside k (inr h)) i
 
   rows_are : (c : ℕ) → base_tile js ps c ≡ rows_of_stage x (stage_tile x (node_tile x) ds 2 c)
   rows_are c =
       let nodes = nodes_told (junctions_in js c) (λ j h. (of_filter (λ k. nat_eq (junction_tile k) c) js j h).0)
-      ∙ ap (λ ns. map (λ n. node_of_extract x n.osm n.edges) (map (stage_node x (node_tile x) ds) ns)) (nodes_are c) in
+      ∙ ap (λ ns. map (λ n. node_of_extract x 2 n.osm n.edges) (map (stage_node x (node_tile x) ds) ns)) (nodes_are c) in
       λ i. record { level = 2; tile = c; nodes = nodes i }
 
   tiles_told : (cs : List ℕ) → map (base_tile js ps) cs ≡ map (rows_of_stage x) (map (stage_tile x (node_tile x) ds 2) cs)

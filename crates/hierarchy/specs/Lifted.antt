@@ -1,6 +1,6 @@
 -- Tiles on their levels: of tiles of level 2, for each of the levels 0, 1 and 2 the tiles with the nodes where an edge of that
 -- level starts, and these edges.
-use Rattle.std.specs.Prelude.{ℕ, ◌+◌, ◌*◌, ◌/◌, ◌%◌, ℤ, Bool, List, [], ◌∷◌, map, filter, length, nat_eq, nat_lt, int_lt, if◌then◌else◌, ◌==◌}
+use Rattle.std.specs.Prelude.{ℕ, ◌+◌, ◌*◌, ◌/◌, ◌%◌, Bool, List, [], ◌∷◌, map, filter, length, nat_eq, nat_lt, int_lt, if◌then◌else◌, ◌==◌}
 use Rattle.std.specs.List.{flat_map}
 use Rattle.tile_geometry.specs.Grid.{columns, class_level}
 use Rattle.road_walks.specs.Orders.{rising, not_none}

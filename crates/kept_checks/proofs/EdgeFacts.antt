@@ -1,6 +1,6 @@
--- What holds of each edge and each node of the first stage of an extract.
-use Rattle.std.proofs.Common.{◌≡◌, ◌∙◌, ℕ, suc, ◌+◌, ◌<◌, ◌≤◌, Bool, true, false, cond, not, ◌&&◌, refl, ap, List, [], ◌∷◌, length, map, ℤ, pos, negsuc, Option, Some, None, find, inl, inr, arith, eq-eqb}
-use Rattle.std.specs.Prelude.{All, ◌≤ℤ◌, int_lt, nat_le, nat_lt, nat_eq, unwrap_or, option_map}
+-- What holds of each edge and each node of the tiles of an extract.
+use Rattle.std.proofs.Common.{◌≡◌, ◌∙◌, ℕ, suc, ◌+◌, ◌*◌, ◌<◌, ◌≤◌, Bool, true, false, cond, not, ◌&&◌, refl, ap, List, [], ◌∷◌, length, map, ℤ, pos, negsuc, Option, Some, None, find, inl, inr, arith, eq-eqb}
+use Rattle.std.specs.Prelude.{◌==◌, ◌≤ℤ◌, int_lt, nat_le, nat_lt, unwrap_or, option_map}
 use Rattle.std.specs.List.{position_or_len}
 use Rattle.std.specs.Option.{option_and_then}
 use Rattle.std.proofs.lemmas.Int.{ints}
@@ -14,22 +14,19 @@ use Rattle.osm_model.specs.declared.tags.Tag.{Tag}
 use Rattle.osm_model.specs.declared.extract.Extract.{Extract}
 use Rattle.way_tags.specs.Highways.{HighwayRow, highways, highway_row}
 use Rattle.way_tags.specs.Values.{has_value_among}
-use Rattle.tile_geometry.specs.Grid.{grid_tile}
+use Rattle.tile_geometry.specs.Grid.{tile_count, grid_tile}
 use Rattle.tile_geometry.proofs.GridLaws.{grid_counted}
 use Rattle.road_pieces.specs.DirectedPiece.{DirectedPiece}
 use Rattle.road_pieces.specs.Rules.{class_of, way_tags}
 use Rattle.road_pieces.specs.declared.limits.TheConstants.{LONGEST_PIECE_CM}
 use Rattle.road_pieces.specs.Lengths.{point, piece_cm}
 use Rattle.road_pieces.specs.Pieces.{IsPiece, piece_start, piece_end}
-use Rattle.road_pieces.specs.Rows.{junction_rows, piece_rows}
+use Rattle.road_pieces.specs.Rows.{piece_rows}
 use Rattle.road_pieces.proofs.Members.{IsIn}
 use Rattle.road_walks.specs.BaseEdges.{directed_pieces, is_same, base_edges, reverse_of}
 use Rattle.road_walks.proofs.Locals.{in_filter, in_directed, same_itself}
 use Rattle.tile_bytes.specs.Items.{is_between, lies_in}
-use Rattle.road_walks.specs.Stages.{stage}
-use Rattle.folder_spec.specs.Chains.{piece_level}
-use Rattle.edge_builder.specs.BaseTiles.{base_tiles_of}
-use Rattle.edge_builder.specs.ExtractRows.{forward_pieces, is_of_piece, piece_place, piece_of_extract, node_tile, edge_of_extract, rows_of_stage}
+use Rattle.edge_builder.specs.ExtractRows.{forward_pieces, is_of_piece, piece_place, piece_of_extract, node_tile, edge_of_extract}
 use Rattle.tile_numbers.specs.Limits.{IsRecordedEdge}
 use Rattle.kept_checks.proofs.PieceEntries.{placed_at}
 
@@ -81,13 +78,20 @@ place_lies level tile p place is =
 
 -- ---- edges
 
--- what is known of an extract whose roads are of level 2, where no limit is passed
+-- what is known of an extract whose roads pass no limit
 pub record AreToldSo (x : Extract) : Type 0 where
-  pub on_level : (p : DirectedPiece) → IsPiece x p → piece_level x p ≡ 2
   pub few : (n : ℤ) → length (base_edges x n) ≤ 127
   pub short : (p : DirectedPiece) → IsPiece x p → piece_cm x p ≤ LONGEST_PIECE_CM
   pub forward : piece_rows x ≡ map (piece_of_extract x) (forward_pieces x)
-  pub base : base_tiles_of (junction_rows x) (piece_rows x) ≡ map (rows_of_stage x) (stage x (node_tile x) (directed_pieces x) 2)
+
+-- no level has more tiles than level 2
+pub counted_low : (k : ℕ) → tile_count k ≤ 1_036_800
+counted_low k = by (k == 0) (k == 1)
+  where
+    by : (a b : Bool) → (cond a 90 (cond b 360 1440) * cond a 45 (cond b 180 720)) ≤ 1_036_800
+    by true b = omega arith
+    by false true = omega arith
+    by false false = omega arith
 
 position_in : {A : Type 0} (test : A → Bool) (xs : List A) (x : A) → IsIn xs x → test x ≡ true → position_or_len test xs < length xs
 position_in test [] x h passes = absurd h
@@ -101,8 +105,8 @@ position_in test (y ∷ xs) x (inr h) passes = by (test y) (position_in test xs 
     by false l = omega (arith, l)
 
 module _ (x : Extract) (told : AreToldSo x) where
-  pub tile_below : (n : ℤ) → node_tile x 2 n < 1_036_800
-  tile_below n = grid_counted 2 (point x.nodes n) (placed_at x.nodes n x.placed)
+  pub tile_below : (k : ℕ) (n : ℤ) → node_tile x k n < tile_count k
+  tile_below k n = grid_counted k (point x.nodes n) (placed_at x.nodes n x.placed)
 
   turned : (p : DirectedPiece) → IsPiece x p → IsPiece x (reverse_of p)
   turned p h = record { rises = h.rises; inside = h.inside; begins = h.begins; ends = h.ends; plain = h.plain }
@@ -121,9 +125,9 @@ module _ (x : Extract) (told : AreToldSo x) where
   pub place_inside : (p : DirectedPiece) → IsPiece x p → piece_place x p < length (piece_rows x)
   place_inside p piece = omega (arith, place_low p piece, ap length told.forward, length-map (forward_pieces x) (piece_of_extract x))
 
-  pub edge_recorded : (p : DirectedPiece) → IsPiece x p → IsRecordedEdge (edge_of_extract x p)
-  edge_recorded p piece = record {
-    end_tile = let low = tile_below (piece_end x p) in omega (arith, low);
+  pub edge_recorded : (k : ℕ) (p : DirectedPiece) → IsPiece x p → IsRecordedEdge (edge_of_extract x k p)
+  edge_recorded k p piece = record {
+    end_tile = let low = tile_below k (piece_end x p) in omega (arith, low, counted_low k);
     cm = told.short p piece;
     local = omega (arith, prefix_len-le-length (λ q. not (is_same p q)) (base_edges x (piece_start x p)), told.few (piece_start x p));
     class = class_low (way_tags x p.way);

@@ -1,38 +1,38 @@
--- The tiles that are kept can be numbered and finished.
-use Rattle.std.proofs.Common.{◌≡◌, ◌∙◌, ℕ, zero, suc, ◌<◌, ◌≤◌, Bool, true, false, refl, sym, ap, subst, List, [], ◌∷◌, length, get_or, map, filter, ℤ, pos, negsuc, arith, eqb-true}
-use Rattle.std.specs.Prelude.{All, AllPairs, ◌<ℤ◌, int_lt, nat_lt, nat_eq}
+-- The tiles of the folder, as work rows, can be numbered and finished.
+use Rattle.std.proofs.Common.{◌≡◌, ◌∙◌, ℕ, zero, suc, ◌+◌, ◌^◌, ◌<◌, ◌≤◌, Bool, true, false, cond, refl, sym, ap, subst, List, [], ◌∷◌, ◌++◌, length, get_or, map, filter, ℤ, pos, negsuc, inl, inr, arith}
+use Rattle.std.specs.Prelude.{All, AllPairs, ◌<ℤ◌, ⊤, ◌&&◌, int_lt, nat_lt, nat_eq}
 use Rattle.std.specs.Ordering.{int_eq}
 use Rattle.std.proofs.lemmas.Int.{ints}
 use Rattle.std.proofs.lemmas.Bool.{ltb-true, both_ways}
 use Rattle.std.proofs.lemmas.List.{length-map, get_or-map}
-use Rattle.std.proofs.lemmas.List.Kept.{AllPairs-filter}
-use Rattle.std.proofs.lemmas.List.Sums.{length-filter, count_by-le-length}
 use Rattle.osm_model.specs.Extract.{IdsRise}
 use Rattle.osm_model.specs.declared.extract.Extract.{Extract}
 use Rattle.tile_geometry.specs.Grid.{tile_count, class_level}
 use Rattle.road_pieces.specs.DirectedPiece.{DirectedPiece}
 use Rattle.road_pieces.specs.Lengths.{point}
-use Rattle.road_pieces.specs.Pieces.{IsPiece, piece_start}
-use Rattle.road_pieces.specs.Rows.{junction_rows, piece_rows}
-use Rattle.road_pieces.proofs.Members.{IsIn, in_at, of_flat, of_map}
-use Rattle.road_walks.specs.BaseEdges.{directed_pieces}
-use Rattle.road_walks.specs.Stages.{StageNode, StageTile, nodes_by, stage_tiles, edges_by, stage_node, stage_tile, stage}
-use Rattle.road_walks.proofs.Sorted.{Sorted, of_filter, of_rising, rising_sorted, numbers_connected, nodes_connected, below_self, below_on, node_never, node_on}
+use Rattle.road_pieces.specs.Pieces.{piece_start}
+use Rattle.road_pieces.specs.Rows.{piece_rows}
+use Rattle.road_pieces.proofs.Members.{IsIn, in_at, of_append, of_flat, of_map}
+use Rattle.road_walks.specs.BaseEdges.{directed_pieces, base_edges}
+use Rattle.road_walks.proofs.Sorted.{Sorted, of_rising, rising_sorted, numbers_connected, nodes_connected, below_self, below_on, node_never, node_on}
+use Rattle.folder_spec.specs.Links.{Link, base_link}
+use Rattle.folder_spec.specs.Chains.{IsLevelEdge, piece_level}
+use Rattle.folder_spec.specs.Tables.{NodeRow, TileRows}
+use Rattle.folder_spec.specs.Rows.{keeps_piece, kept_at, nodes_in, tiles_on, rows_on}
 use Rattle.work_tile.specs.declared.edge_rows.WorkEdge.{WorkEdge}
 use Rattle.work_tile.specs.WorkRows.{WorkNode, WorkRows}
 use Rattle.work_tile.specs.Places.{tile_number, place_numbers, NumbersRise}
-use Rattle.access_filter.specs.Kept.{is_kept_edge, kept_node, kept_nodes, kept_rows, kept_tiles}
-use Rattle.edge_builder.specs.BaseTiles.{base_tiles_of}
-use Rattle.edge_builder.specs.ExtractRows.{node_tile, edge_of_extract, node_of_extract, rows_of_stage}
-use Rattle.tile_numbers.specs.LookUps.{no_rows}
+use Rattle.edge_builder.specs.ExtractRows.{node_tile, edge_of_extract, node_of_extract}
 use Rattle.tile_numbers.specs.Limits.{HasRoom, IsRecordedEdge, IsRecordedNode, CanBeNumbered}
 use Rattle.tile_numbers.specs.Records.{edges_of_rows}
 use Rattle.tile_number_laws.specs.NumberedChecks.{IsInTile}
 use Rattle.tile_finish.specs.FinishedTiles.{CanBeFinished, AreFinishable}
+use Rattle.kept_rows.specs.KeptRows.{IsPlainTable, open_numbers, open_table, rows_of_table}
+use Rattle.level_tiles.proofs.RecordTable.{levels, starting, tile_of_level, of_starting, in_starting, rows_are, row_on, row_starts, links_of_row}
 use Rattle.kept_checks.specs.KeptChecks.{IsSpellable}
 use Rattle.kept_checks.proofs.KeyOrder.{keys_rise}
 use Rattle.kept_checks.proofs.PieceEntries.{placed_at, entries_there}
-use Rattle.kept_checks.proofs.EdgeFacts.{AreToldSo, place_lies, tile_below, place_inside, edge_recorded}
+use Rattle.kept_checks.proofs.EdgeFacts.{AreToldSo, place_lies, counted_low, tile_below, place_inside, edge_recorded}
 
 -- ---- lists
 
@@ -60,159 +60,242 @@ below_int (pos a) (negsuc b) h = absurd (both_ways false refl h)
 below_int (negsuc a) (pos b) h = omega (arith, ints)
 below_int (negsuc a) (negsuc b) h = let k = ltb-true b a h in omega (arith, ints, k)
 
--- ---- what holds of a kept tile
+-- fewer pass two tests, one after the other
+both_few : {E : Type 0} (p q : E → Bool) (es : List E) → length (filter p (filter q es)) ≤ length (filter p es)
+both_few p q [] = omega arith
+both_few p q (e ∷ es) = by (p e) (q e) refl (both_few p q es)
+  where
+    by : (a b : Bool) → p e ≡ a → length (filter p (filter q es)) ≤ length (filter p es) → length (filter p (cond b (e ∷ filter q es) (filter q es))) ≤ length (cond a (e ∷ filter p es) (filter p es))
+    by true true same rest = let first = ap (λ c. length (cond c (e ∷ filter p (filter q es)) (filter p (filter q es)))) same in omega (arith, rest, first)
+    by false true same rest = let first = ap (λ c. length (cond c (e ∷ filter p (filter q es)) (filter p (filter q es)))) same in omega (arith, rest, first)
+    by true false same rest = omega (arith, rest)
+    by false false same rest = rest
 
-record IsKeptNode (count tile : ℕ) (n : WorkNode) : Type 0 where
+some_there : {E : Type 0} (es : List E) (e : E) → IsIn es e → 1 ≤ length es
+some_there [] e h = absurd h
+some_there (f ∷ es) e h = omega arith
+
+-- ---- tiles in order of level and number
+
+abbrev number : TileRows → ℕ
+number t = tile_number t.level t.tile
+
+abbrev InOrder : List TileRows → Type 0
+InOrder [] = ⊤
+InOrder (t ∷ ts) = ((u : TileRows) → IsIn ts u → number t < number u) × InOrder ts
+
+both_in_order : (ts us : List TileRows) → InOrder ts → InOrder us → ((t u : TileRows) → IsIn ts t → IsIn us u → number t < number u) → InOrder (ts ++ us)
+both_in_order [] us one two apart = two
+both_in_order (t ∷ ts) us one two apart = (
+  λ u h. elim (of_append ts us u h) [ inl here ↦ one.0 u here | inr there ↦ apart t u (inl refl) there ],
+  both_in_order ts us one.1 two (λ v u h k. apart v u (inr h) k),
+)
+
+pairs_in_order : (ts : List TileRows) → InOrder ts → (i j : ℕ) (d : TileRows) → i < j → j < length ts → number (get_or ts i d) < number (get_or ts j d)
+pairs_in_order [] h i j d a b = absurd (omega (arith, b))
+pairs_in_order (t ∷ ts) h zero zero d a b = absurd (omega (arith, a))
+pairs_in_order (t ∷ ts) h zero (suc j) d a b = h.0 (get_or ts j d) (in_at ts j d (get_or ts j d) (omega (arith, b)) refl)
+pairs_in_order (t ∷ ts) h (suc i) zero d a b = absurd (omega (arith, a))
+pairs_in_order (t ∷ ts) h (suc i) (suc j) d a b = pairs_in_order ts h.1 i j d (omega (arith, a)) (omega (arith, b))
+
+-- ---- what holds of a tile
+
+record IsLiftedNode (count level tile : ℕ) (n : WorkNode) : Type 0 where
   recorded : IsRecordedNode n
-  in_tile : IsInTile 2 tile n
-  classes : (e : WorkEdge) → IsIn n.edges e → class_level e.class ≡ 2
+  in_tile : IsInTile level tile n
+  classes : (e : WorkEdge) → IsIn n.edges e → class_level e.class ≡ level
   places : (e : WorkEdge) → IsIn n.edges e → e.place < count
 
-record IsKeptTile (count : ℕ) (rows : WorkRows) : Type 0 where
-  level_is : rows.level ≡ 2
-  low : rows.tile < 1_036_800
+record IsLiftedTile (count : ℕ) (rows : WorkRows) : Type 0 where
+  level_low : rows.level ≤ 2
+  low : rows.tile < tile_count rows.level
   rise : IdsRise (λ (n : WorkNode). n.osm) rows.nodes
-  nodes : (n : WorkNode) → IsIn rows.nodes n → IsKeptNode count rows.tile n
+  nodes : (n : WorkNode) → IsIn rows.nodes n → IsLiftedNode count rows.level rows.tile n
 
-module _ (x : Extract) (asked : ℕ) (told : AreToldSo x) (listed : (p : DirectedPiece) → IsIn (directed_pieces x) p → IsPiece x p) where
-  abbrev ds : List DirectedPiece
-  ds = directed_pieces x
-
+module _ (x : Extract) (asked : ℕ) (told : AreToldSo x) (plain : IsPlainTable (open_table x asked)) where
   abbrev count : ℕ
   count = length (piece_rows x)
 
-  abbrev edges_at : ℤ → List WorkEdge
-  edges_at m = filter (is_kept_edge asked) (map (edge_of_extract x) (edges_by x (node_tile x) ds m))
+  abbrev tables : List TileRows
+  tables = (open_table x asked).tiles
 
-  abbrev node_at : ℤ → WorkNode
-  node_at m = kept_node asked (node_of_extract x m (edges_by x (node_tile x) ds m))
+  abbrev node_with : ℕ → NodeRow → WorkNode
+  node_with k r = node_of_extract x k r.osm (map (λ l. l.first) r.links)
 
-  edge_told : (m : ℤ) (e : WorkEdge) → IsIn (edges_at m) e → (p : DirectedPiece) × (IsPiece x p × (edge_of_extract x p ≡ e))
-  edge_told m e h =
-      let (there, kept) = of_filter (is_kept_edge asked) (map (edge_of_extract x) (edges_by x (node_tile x) ds m)) e h in
-      let (p, (inside, is)) = of_map (edge_of_extract x) (edges_by x (node_tile x) ds m) e there in
-      let (all, starts) = of_filter (λ q. int_eq (piece_start x q) m) ds p inside in
-      (p, (listed p all, is))
+  -- ---- a node
 
-  edges_few : (m : ℤ) → length (edges_at m) ≤ 127
-  edges_few m =
-      omega (arith, length-filter (is_kept_edge asked) (map (edge_of_extract x) (edges_by x (node_tile x) ds m)), count_by-le-length (is_kept_edge asked) (map (edge_of_extract x) (edges_by x (node_tile x) ds m)), length-map (edges_by x (node_tile x) ds m) (edge_of_extract x), told.few m)
+  module _ (rows : TileRows) (r : NodeRow) (there : IsIn tables rows) (among : IsIn rows.nodes r) where
+    linked : r.links ≡ map base_link (starting x asked rows.level r.osm)
+    linked = links_of_row x asked plain rows r there among
 
-  node_kept : (c : ℕ) (m : ℤ) → node_tile x 2 m ≡ c → 1 ≤ length (edges_at m) → IsKeptNode count c (node_at m)
-  node_kept c m is some = record {
-    recorded = record {
-      few = edges_few m;
-      each = of_each IsRecordedEdge (edges_at m) (λ e h. let (p, (piece, same)) = edge_told m e h in subst IsRecordedEdge same (edge_recorded x told p piece));
-    };
-    in_tile = record { lies = place_lies 2 c (point x.nodes m) (placed_at x.nodes m x.placed) is; some = some };
-    classes = λ e h. let (p, (piece, same)) = edge_told m e h in subst (λ (f : WorkEdge). class_level f.class ≡ 2) same (told.on_level p piece);
-    places = λ e h. let (p, (piece, same)) = edge_told m e h in subst (λ (f : WorkEdge). f.place < count) same (place_inside x told p piece);
+    edge_told : (e : WorkEdge) → IsIn (node_with rows.level r).edges e → (p : DirectedPiece) × (IsLevelEdge x asked rows.level p × (edge_of_extract x rows.level p ≡ e))
+    edge_told e h =
+        let (p, (first, is)) = of_map (edge_of_extract x rows.level) (map (λ l. l.first) r.links) e h in
+        let (l, (on, its)) = of_map (λ (m : Link DirectedPiece). m.first) r.links p first in
+        let (q, (starts, same)) = of_map base_link (starting x asked rows.level r.osm) l (subst (λ ls. IsIn ls l) linked on) in
+        let (edge, _) = of_starting x asked rows.level r.osm q starts in
+        (q, (edge, ap (edge_of_extract x rows.level) (ap (λ (m : Link DirectedPiece). m.first) same ∙ its) ∙ is))
+
+    edges_counted : length (node_with rows.level r).edges ≡ length (starting x asked rows.level r.osm)
+    edges_counted =
+        length-map (map (λ l. l.first) r.links) (edge_of_extract x rows.level) ∙ length-map r.links (λ l. l.first)
+        ∙ ap length linked ∙ length-map (starting x asked rows.level r.osm) base_link
+
+    edges_few : length (starting x asked rows.level r.osm) ≤ length (base_edges x r.osm)
+    edges_few = both_few (λ p. int_eq (piece_start x p) r.osm) (λ p. keeps_piece x asked open_numbers [] (node_tile x) p && nat_eq (piece_level x p) rows.level) (directed_pieces x)
+
+    node_so : IsLiftedNode count rows.level rows.tile (node_with rows.level r)
+    node_so =
+        let start = row_starts x asked rows r there among in
+        let place = placed_at x.nodes r.osm x.placed in
+        let own : IsIn (starting x asked rows.level r.osm) start.piece = in_starting x asked rows.level r.osm start.piece start.is start.starts in
+        record {
+          recorded = record {
+            place = place;
+            few = omega (arith, edges_counted, edges_few, told.few r.osm);
+            each = of_each IsRecordedEdge (node_with rows.level r).edges (λ e h. let (p, (edge, same)) = edge_told e h in subst IsRecordedEdge same (edge_recorded x told rows.level p edge.kept.exists));
+          };
+          in_tile = record { lies = place_lies rows.level rows.tile (point x.nodes r.osm) place start.tile; some = omega (arith, edges_counted, some_there (starting x asked rows.level r.osm) start.piece own) };
+          classes = λ e h. let (p, (edge, same)) = edge_told e h in subst (λ (f : WorkEdge). class_level f.class ≡ rows.level) same edge.level_is;
+          places = λ e h. let (p, (edge, same)) = edge_told e h in subst (λ (f : WorkEdge). f.place < count) same (place_inside x told p edge.kept.exists);
+        }
+
+  -- ---- a tile
+
+  nodes_rise : (k c : ℕ) → IdsRise (λ (n : WorkNode). n.osm) (rows_of_table x (tile_of_level x asked k c)).nodes
+  nodes_rise k c =
+      let begun = filter (λ n. nat_eq (node_tile x k n) c) (map (piece_start x) (kept_at x asked open_numbers [] (node_tile x) k)) in
+      let ns = nodes_in x asked open_numbers [] (node_tile x) k c in
+      pairs_map (λ (a b : NodeRow). a.osm <ℤ b.osm) (λ (a b : WorkNode). a.osm <ℤ b.osm) (node_with k) (λ a b h. h) (map (row_on x asked k) ns)
+      (pairs_map (λ (a b : ℤ). a <ℤ b) (λ (a b : NodeRow). a.osm <ℤ b.osm) (row_on x asked k) (λ a b h. h) ns
+      (λ i j d a b. below_int _ _ (sorted_pairs int_lt nodes_connected node_never node_on ns (rising_sorted int_lt nodes_connected node_never node_on begun) i j d a b)))
+
+  tile_level : (rows : TileRows) → IsIn tables rows → IsIn levels rows.level
+  tile_level rows there =
+      let (k, (low, inside)) = of_flat (rows_on x asked open_numbers [] (node_tile x)) levels rows there in
+      let (c, (on, same)) = of_map (tile_of_level x asked k) (tiles_on x asked open_numbers [] (node_tile x) k) rows inside in
+      subst (λ (r : TileRows). IsIn levels r.level) same low
+
+  level_low : (k : ℕ) → IsIn levels k → k ≤ 2
+  level_low k (inl is) = omega (arith, is)
+  level_low k (inr (inl is)) = omega (arith, is)
+  level_low k (inr (inr (inl is))) = omega (arith, is)
+  level_low k (inr (inr (inr none))) = absurd none
+
+  -- the tiles of a level
+  number_low : (k c : ℕ) → IsIn (tiles_on x asked open_numbers [] (node_tile x) k) c → c < tile_count k
+  number_low k c on =
+      let kept = kept_at x asked open_numbers [] (node_tile x) k in
+      let (p, (_, is)) = of_map (λ q. node_tile x k (piece_start x q)) kept c (of_rising nat_lt numbers_connected (map (λ q. node_tile x k (piece_start x q)) kept) c on) in
+      subst (λ n. n < tile_count k) is (tile_below x told k (piece_start x p))
+
+  tile_low : (rows : TileRows) → IsIn tables rows → rows.tile < tile_count rows.level
+  tile_low rows there =
+      let (k, (low, inside)) = of_flat (rows_on x asked open_numbers [] (node_tile x)) levels rows there in
+      let (c, (on, same)) = of_map (tile_of_level x asked k) (tiles_on x asked open_numbers [] (node_tile x) k) rows inside in
+      subst (λ (r : TileRows). r.tile < tile_count r.level) same (number_low k c on)
+
+  tile_so : (rows : TileRows) → IsIn tables rows → IsLiftedTile count (rows_of_table x rows)
+  tile_so rows there = record {
+    level_low = level_low rows.level (tile_level rows there);
+    low = tile_low rows there;
+    rise = subst (λ (r : TileRows). IdsRise (λ (n : WorkNode). n.osm) (rows_of_table x r).nodes) (rows_are x asked rows there) (nodes_rise rows.level rows.tile);
+    nodes = λ n h.
+    let (r, (among, same)) = of_map (node_with rows.level) rows.nodes n h in
+    subst (IsLiftedNode count rows.level rows.tile) same (node_so rows r there among);
   }
 
-  abbrev stage_rows : ℕ → WorkRows
-  stage_rows c = rows_of_stage x (stage_tile x (node_tile x) ds 2 c)
+  -- ---- all tiles
 
-  abbrev starts_in : ℕ → List ℤ
-  starts_in c = filter (λ n. nat_eq (node_tile x 2 n) c) (map (piece_start x) ds)
+  level_in_order : (k : ℕ) → (cs : List ℕ) → Sorted nat_lt numbers_connected below_self below_on cs → InOrder (map (tile_of_level x asked k) cs)
+  level_in_order k [] h = tt
+  level_in_order k (c ∷ cs) h = (
+    λ u there.
+    let (d, (on, same)) = of_map (tile_of_level x asked k) cs u there in
+    let below = ltb-true c d (h.0 d on) in
+    subst (λ (t : TileRows). number (tile_of_level x asked k c) < number t) same (omega (arith, below)),
+    level_in_order k cs h.1,
+  )
 
-  node_of_rows : (c : ℕ) (n : WorkNode) → IsIn (kept_rows asked (stage_rows c)).nodes n → IsKeptNode count c n
-  unfolding kept_nodes
-  node_of_rows c n h =
-      let (there, some) = of_filter (λ node. nat_lt 0 (length node.edges)) (map (kept_node asked) (stage_rows c).nodes) n h in
-      let (w, (in_rows, is)) = of_map (kept_node asked) (stage_rows c).nodes n there in
-      let (s, (in_stage, made)) = of_map (λ (r : StageNode). node_of_extract x r.osm r.edges) (map (stage_node x (node_tile x) ds) (nodes_by x (node_tile x) ds 2 c)) w in_rows in
-      let (m, (in_nodes, its)) = of_map (stage_node x (node_tile x) ds) (nodes_by x (node_tile x) ds 2 c) s in_stage in
-      let (in_starts, tile) = of_filter (λ k. nat_eq (node_tile x 2 k) c) (map (piece_start x) ds) m (of_rising int_lt nodes_connected (starts_in c) m in_nodes) in
-      let same : node_at m ≡ n = ap (λ (r : StageNode). kept_node asked (node_of_extract x r.osm r.edges)) its ∙ ap (kept_node asked) made ∙ is in
-      let many = ltb-true 0 (length n.edges) some in
-      subst (IsKeptNode count c) same (node_kept c m (eqb-true (node_tile x 2 m) c tile) (omega (arith, many, ap (λ (k : WorkNode). length k.edges) same)))
+  on_level_in_order : (k : ℕ) → InOrder (rows_on x asked open_numbers [] (node_tile x) k)
+  on_level_in_order k =
+      level_in_order k (tiles_on x asked open_numbers [] (node_tile x) k)
+      (rising_sorted nat_lt numbers_connected below_self below_on (map (λ p. node_tile x k (piece_start x p)) (kept_at x asked open_numbers [] (node_tile x) k)))
 
-  nodes_rise : (c : ℕ) → IdsRise (λ (n : WorkNode). n.osm) (kept_rows asked (stage_rows c)).nodes
-  unfolding kept_nodes
-  nodes_rise c =
-      AllPairs-filter (λ (a b : WorkNode). a.osm <ℤ b.osm) (λ node. nat_lt 0 (length node.edges)) (map (kept_node asked) (stage_rows c).nodes)
-      (pairs_map (λ (a b : WorkNode). a.osm <ℤ b.osm) (λ (a b : WorkNode). a.osm <ℤ b.osm) (kept_node asked) (λ a b h. h) (stage_rows c).nodes
-      (pairs_map (λ (a b : StageNode). a.osm <ℤ b.osm) (λ (a b : WorkNode). a.osm <ℤ b.osm) (λ (r : StageNode). node_of_extract x r.osm r.edges) (λ a b h. h) (map (stage_node x (node_tile x) ds) (nodes_by x (node_tile x) ds 2 c))
-      (pairs_map (λ (a b : ℤ). a <ℤ b) (λ (a b : StageNode). a.osm <ℤ b.osm) (stage_node x (node_tile x) ds) (λ a b h. h) (nodes_by x (node_tile x) ds 2 c)
-      (λ i j d a b. below_int _ _ (sorted_pairs int_lt nodes_connected node_never node_on (nodes_by x (node_tile x) ds 2 c) (rising_sorted int_lt nodes_connected node_never node_on (starts_in c)) i j d a b)))))
+  record IsOnLevel (k : ℕ) (t : TileRows) : Type 0 where
+    level_is : t.level ≡ k
+    low : t.tile < 2 ^ 32
 
-  abbrev tiles_from : List ℕ
-  tiles_from = map (λ p. node_tile x 2 (piece_start x p)) ds
+  on_level : (k : ℕ) (t : TileRows) → IsIn (rows_on x asked open_numbers [] (node_tile x) k) t → IsOnLevel k t
+  on_level k t h =
+      let (c, (on, same)) = of_map (tile_of_level x asked k) (tiles_on x asked open_numbers [] (node_tile x) k) t h in
+      let low = number_low k c on in
+      record { level_is = ap (λ (r : TileRows). r.level) (sym same); low = omega (arith, low, counted_low k, ap (λ (r : TileRows). r.tile) same) }
 
-  tile_kept : (c : ℕ) → IsIn (stage_tiles x (node_tile x) ds 2) c → IsKeptTile count (kept_rows asked (stage_rows c))
-  tile_kept c h =
-      let (p, (there, is)) = of_map (λ p. node_tile x 2 (piece_start x p)) ds c (of_rising nat_lt numbers_connected tiles_from c h) in
-      record {
-        level_is = refl;
-        low = subst (λ n. n < 1_036_800) is (tile_below x told (piece_start x p));
-        rise = nodes_rise c;
-        nodes = node_of_rows c;
-      }
+  apart : (k l : ℕ) (t u : TileRows) → k < l → IsOnLevel k t → IsOnLevel l u → number t < number u
+  apart k l t u h a b = omega (arith, h, a.level_is, a.low, b.level_is, b.low)
 
-  -- ---- the tiles that are kept
+  abbrev rows_of_level : ℕ → List TileRows
+  rows_of_level k = rows_on x asked open_numbers [] (node_tile x) k
 
-  abbrev base : List WorkRows
-  base = base_tiles_of (junction_rows x) (piece_rows x)
+  tables_in_order : InOrder tables
+  tables_in_order =
+      both_in_order (rows_of_level 0) (rows_of_level 1 ++ (rows_of_level 2 ++ [])) (on_level_in_order 0)
+      (both_in_order (rows_of_level 1) (rows_of_level 2 ++ []) (on_level_in_order 1)
+      (both_in_order (rows_of_level 2) [] (on_level_in_order 2) tt (λ t u h k. absurd k))
+      (λ t u h k. elim (of_append (rows_of_level 2) [] u k) [ inl here ↦ apart 1 2 t u (omega arith) (on_level 1 t h) (on_level 2 u here) | inr none ↦ absurd none ]))
+      (λ t u h k. elim (of_append (rows_of_level 1) (rows_of_level 2 ++ []) u k) [
+        | inl one ↦ apart 0 1 t u (omega arith) (on_level 0 t h) (on_level 1 u one)
+        | inr rest ↦ elim (of_append (rows_of_level 2) [] u rest) [ inl two ↦ apart 0 2 t u (omega arith) (on_level 0 t h) (on_level 2 u two) | inr none ↦ absurd none ]
+      ])
 
-  abbrev kept : List WorkRows
-  kept = kept_tiles asked base
+  -- ---- the tiles as work rows
 
-  kept_so : (rows : WorkRows) → IsIn kept rows → IsKeptTile count rows
-  unfolding kept_tiles
-  kept_so rows h =
-      let (there, some) = of_filter (λ tile. nat_lt 0 (length tile.nodes)) (map (kept_rows asked) base) rows h in
-      let (r, (in_base, is)) = of_map (kept_rows asked) base rows there in
-      let (t, (in_stage, made)) = of_map (rows_of_stage x) (stage x (node_tile x) ds 2) r (subst (λ l. IsIn l r) told.base in_base) in
-      let (c, (in_tiles, its)) = of_map (stage_tile x (node_tile x) ds 2) (stage_tiles x (node_tile x) ds 2) t in_stage in
-      let same : kept_rows asked (stage_rows c) ≡ rows = ap (λ (s : StageTile). kept_rows asked (rows_of_stage x s)) its ∙ ap (kept_rows asked) made ∙ is in
-      subst (IsKeptTile count) same (tile_kept c in_tiles)
+  abbrev works : List WorkRows
+  works = map (rows_of_table x) tables
 
-  tiles_rise : AllPairs (λ (a b : WorkRows). a.tile < b.tile) kept
-  unfolding kept_tiles
-  tiles_rise =
-      AllPairs-filter (λ (a b : WorkRows). a.tile < b.tile) (λ tile. nat_lt 0 (length tile.nodes)) (map (kept_rows asked) base)
-      (pairs_map (λ (a b : WorkRows). a.tile < b.tile) (λ (a b : WorkRows). a.tile < b.tile) (kept_rows asked) (λ a b h. h) base
-      (subst (AllPairs (λ (a b : WorkRows). a.tile < b.tile)) (sym told.base)
-      (pairs_map (λ (a b : StageTile). a.tile < b.tile) (λ (a b : WorkRows). a.tile < b.tile) (rows_of_stage x) (λ a b h. h) (stage x (node_tile x) ds 2)
-      (pairs_map (λ (a b : ℕ). a < b) (λ (a b : StageTile). a.tile < b.tile) (stage_tile x (node_tile x) ds 2) (λ a b h. h) (stage_tiles x (node_tile x) ds 2)
-      (λ i j d a b. ltb-true _ _ (sorted_pairs nat_lt numbers_connected below_self below_on (stage_tiles x (node_tile x) ds 2) (rising_sorted nat_lt numbers_connected below_self below_on tiles_from) i j d a b))))))
-
-  kept_at : (k : ℕ) (d : WorkRows) → k < length kept → IsKeptTile count (get_or kept k d)
-  kept_at k d inside = kept_so (get_or kept k d) (in_at kept k d (get_or kept k d) inside refl)
-
-  numbers_rise : NumbersRise (place_numbers kept)
+  numbers_rise : NumbersRise (place_numbers works)
   numbers_rise i j a b =
-      let low : j < length kept = omega (arith, b, length-map kept (λ t. tile_number t.level t.tile)) in
-      let first = get_or-map (λ (t : WorkRows). tile_number t.level t.tile) kept i no_rows 0 (omega (arith, a, low)) in
-      let second = get_or-map (λ (t : WorkRows). tile_number t.level t.tile) kept j no_rows 0 low in
-      let below = tiles_rise i j no_rows a low in
-      let one = (kept_at i no_rows (omega (arith, a, low))).level_is in
-      let two = (kept_at j no_rows low).level_is in
-      omega (arith, first, second, below, one, two)
+      let many = length-map works (λ t. tile_number t.level t.tile) in
+      let more = length-map tables (rows_of_table x) in
+      let low : j < length tables = omega (arith, b, many, more) in
+      let no : TileRows = record { level = 0; tile = 0; nodes = [] } in
+      let first = get_or-map (λ (t : WorkRows). tile_number t.level t.tile) works i (rows_of_table x no) 0 (omega (arith, a, b, many)) in
+      let second = get_or-map (λ (t : WorkRows). tile_number t.level t.tile) works j (rows_of_table x no) 0 (omega (arith, b, many)) in
+      let at_first = ap (λ (t : WorkRows). tile_number t.level t.tile) (get_or-map (rows_of_table x) tables i no (rows_of_table x no) (omega (arith, a, low))) in
+      let at_second = ap (λ (t : WorkRows). tile_number t.level t.tile) (get_or-map (rows_of_table x) tables j no (rows_of_table x no) low) in
+      let below = pairs_in_order tables tables_in_order i j no a low in
+      omega (arith, first, second, at_first, at_second, below)
 
-  numbered : (rows : WorkRows) → IsKeptTile count rows → HasRoom rows → CanBeNumbered rows
+  work_so : (w : WorkRows) → IsIn works w → IsLiftedTile count w
+  work_so w h = let (rows, (there, same)) = of_map (rows_of_table x) tables w h in subst (IsLiftedTile count) same (tile_so rows there)
+
+  numbered : (rows : WorkRows) → IsLiftedTile count rows → HasRoom rows → CanBeNumbered rows
   numbered rows is room = record {
-    level = omega (arith, is.level_is);
-    tile = omega (arith, is.low);
+    level = is.level_low;
+    tile = omega (arith, is.low, counted_low rows.level);
     room = room;
     rise = is.rise;
     each = of_each IsRecordedNode rows.nodes (λ n h. (is.nodes n h).recorded);
   }
 
-  finished : (rows : WorkRows) → IsKeptTile count rows → CanBeFinished count rows
+  finished : (rows : WorkRows) → IsLiftedTile count rows → CanBeFinished count rows
   finished rows is =
       let edge_of = λ (e : WorkEdge) (h : IsIn (edges_of_rows rows) e). of_flat (λ (n : WorkNode). n.edges) rows.nodes e h in
       record {
-        there = subst (λ l. rows.tile < tile_count l) (sym is.level_is) is.low;
-        nodes = of_each (IsInTile rows.level rows.tile) rows.nodes (λ n h. subst (λ l. IsInTile l rows.tile n) (sym is.level_is) (is.nodes n h).in_tile);
-        classes = of_each (λ (e : WorkEdge). class_level e.class ≡ rows.level) (edges_of_rows rows) (λ e h. let (n, (there, here)) = edge_of e h in (is.nodes n there).classes e here ∙ sym is.level_is);
+        there = is.low;
+        nodes = of_each (IsInTile rows.level rows.tile) rows.nodes (λ n h. (is.nodes n h).in_tile);
+        classes = of_each (λ (e : WorkEdge). class_level e.class ≡ rows.level) (edges_of_rows rows) (λ e h. let (n, (there, here)) = edge_of e h in (is.nodes n there).classes e here);
         places = of_each (λ (e : WorkEdge). e.place < count) (edges_of_rows rows) (λ e h. let (n, (there, here)) = edge_of e h in (is.nodes n there).places e here);
       }
 
-  pub kept_finishable : All IsSpellable (piece_rows x) → All HasRoom kept → AreFinishable kept (piece_rows x)
-  kept_finishable spell room = record {
-    numbered = record { rise = numbers_rise; each = λ k d inside. numbered (get_or kept k d) (kept_at k d inside) (room k d inside) };
-    each = λ k d inside. finished (get_or kept k d) (kept_at k d inside);
+  work_at : (k : ℕ) (d : WorkRows) → k < length works → IsLiftedTile count (get_or works k d)
+  work_at k d inside = work_so (get_or works k d) (in_at works k d (get_or works k d) inside refl)
+
+  pub table_finishable : All IsSpellable (piece_rows x) → All HasRoom works → AreFinishable works (piece_rows x)
+  table_finishable spell room = record {
+    numbered = record { rise = numbers_rise; each = λ k d inside. numbered (get_or works k d) (work_at k d inside) (room k d inside) };
+    each = λ k d inside. finished (get_or works k d) (work_at k d inside);
     entries = entries_there x spell;
     rise = keys_rise x;
   }

@@ -4,5 +4,5 @@
 mod laws;
 mod spelled;
 
-pub use laws::kept_are_finishable;
+pub use laws::lifted_are_finishable;
 pub use spelled::pieces_spell;

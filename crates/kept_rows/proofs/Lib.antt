@@ -1,5 +1,6 @@
 pub mod ListFacts
 pub mod KeptStages
-pub mod LocalLevels
-pub mod LocalTables
+pub mod LevelPlaces
+pub mod OpenTables
+pub mod LiftedStages
 pub mod TableLaws

@@ -10,6 +10,7 @@ use Rattle.access_filter.specs.Kept.{kept_tiles}
 use Rattle.edge_builder.specs.BaseTiles.{base_tiles_of}
 use Rattle.edge_builder.specs.ExtractRows.{node_tile, node_of_extract}
 use Rattle.hierarchy.specs.Lifted.{lifted_tiles}
+use Rattle.hierarchy.specs.Spots.{OwnNodes}
 
 -- the base tiles; what is kept of them; and that on its levels
 abbrev pub kept_of_extract : Extract → ℕ → List WorkRows
@@ -38,6 +39,10 @@ rows_of_table x rows = record {
 -- the law
 abbrev pub LiftedAreTable : Type 0
 LiftedAreTable = (x : Extract) (asked : ℕ) → lifted_of_extract x asked ≡ map (rows_of_table x) (open_table x asked).tiles
+
+-- the kept tiles can be lifted
+abbrev pub KeptOwnNodes : Type 0
+KeptOwnNodes = (x : Extract) (asked : ℕ) → OwnNodes (kept_of_extract x asked)
 
 -- each link of the table is one edge, and there is no sequence
 pub record IsPlainTable (t : RowTable) : Type 0 where

@@ -63,10 +63,10 @@ module _ (x : Extract) where
   one_direction true b h = h
   one_direction false b h = h
 
-  pub runs_back_is : (p q : DirectedPiece) → IsPiece x p → IsPiece x q → runs_back (edge_of_extract x p).key (edge_of_extract x q) ≡ is_same (reverse_of p) q
-  runs_back_is p q is too = same_bools (runs_back (edge_of_extract x p).key (edge_of_extract x q)) (is_same (reverse_of p) q) to back
+  pub runs_back_is : (k : ℕ) (p q : DirectedPiece) → IsPiece x p → IsPiece x q → runs_back (edge_of_extract x k p).key (edge_of_extract x k q) ≡ is_same (reverse_of p) q
+  runs_back_is k p q is too = same_bools (runs_back (edge_of_extract x k p).key (edge_of_extract x k q)) (is_same (reverse_of p) q) to back
     where
-      to : runs_back (edge_of_extract x p).key (edge_of_extract x q) ≡ true → is_same (reverse_of p) q ≡ true
+      to : runs_back (edge_of_extract x k p).key (edge_of_extract x k q) ≡ true → is_same (reverse_of p) q ≡ true
       to h =
           let (h3, round) = and_parts ((int_eq p.way q.way && nat_eq p.run q.run) && nat_eq (piece_number x p) (piece_number x q)) (cond p.forward (not q.forward) q.forward) h in
           let (h2, number) = and_parts (int_eq p.way q.way && nat_eq p.run q.run) (nat_eq (piece_number x p) (piece_number x q)) h3 in
@@ -78,7 +78,7 @@ module _ (x : Extract) where
       turned true = refl
       turned false = refl
 
-      back : is_same (reverse_of p) q ≡ true → runs_back (edge_of_extract x p).key (edge_of_extract x q) ≡ true
+      back : is_same (reverse_of p) q ≡ true → runs_back (edge_of_extract x k p).key (edge_of_extract x k q) ≡ true
       back h =
-          subst (λ r. runs_back (edge_of_extract x p).key (edge_of_extract x r) ≡ true) (same_only (reverse_of p) q h)
+          subst (λ r. runs_back (edge_of_extract x k p).key (edge_of_extract x k r) ≡ true) (same_only (reverse_of p) q h)
           (and_both _ _ (and_both _ _ (and_both _ _ ((signed_Decides p.way p.way).1 refl) (eq-eqb p.run p.run refl)) (eq-eqb (piece_number x p) (piece_number x p) refl)) (turned p.forward))

@@ -1,4 +1,4 @@
--- The entries and the texts of a tile of kept rows are those of the folder's tile, and so are the offsets of its edges.
+-- The entries and the texts of a tile of lifted rows are those of the folder's tile, and so are the offsets of its edges.
 use Rattle.std.proofs.Common.{◌≡◌, ℕ, zero, suc, ◌<◌, ◌∙◌, refl, sym, ap, subst, List, [], ◌∷◌, ◌++◌, length, map, filter, take, get_or, Bool, true, arith, nat_eq, nat_lt, Some, slice_get}
 use Rattle.std.specs.List.{flat_map, sum_by, position_or_len}
 use Rattle.std.proofs.lemmas.List.{map-append, length-map}
@@ -11,7 +11,7 @@ use Rattle.road_pieces.specs.Rows.{stops, piece_rows}
 use Rattle.road_pieces.specs.Runs.{run, is_junction}
 use Rattle.road_pieces.specs.declared.rows.Piece.{Piece}
 use Rattle.road_pieces.proofs.Members.{IsIn}
-use Rattle.road_walks.specs.BaseEdges.{tile_numbers, directed_pieces}
+use Rattle.road_walks.specs.BaseEdges.{directed_pieces}
 use Rattle.road_walks.specs.Orders.{rising, same_numbers}
 use Rattle.edge_info.specs.declared.infos.Info.{Info}
 use Rattle.edge_info.specs.Entries.{starts_of}
@@ -24,7 +24,7 @@ use Rattle.work_tile.specs.WorkRows.{WorkRows}
 use Rattle.tile_numbers.specs.Records.{edges_of_rows}
 use Rattle.edge_builder.specs.ExtractRows.{forward_pieces, is_of_piece, piece_place, piece_of_extract, edge_of_extract, node_of_extract}
 use Rattle.tile_finish.specs.FinishedTiles.{piece_places, pieces_of_rows, entries_of_rows, texts_of_rows, entry_offset}
-use Rattle.kept_rows.specs.KeptRows.{open_table, rows_of_table}
+use Rattle.kept_rows.specs.KeptRows.{open_numbers, open_table, rows_of_table}
 use Rattle.level_tiles.specs.LevelTiles.{nothing_given, told_so_far, info_of_fields}
 use Rattle.level_tiles.proofs.TextPlaces.{texts_seen, text_place_is}
 use Rattle.level_tiles.proofs.PieceLists.{first_is_place, filter_both, map_within}
@@ -39,16 +39,16 @@ StartsAreSums = (infos : List Info) (i : ℕ) → i < length infos → slice_get
 
 module _ (x : Extract) (asked k c : ℕ) where
   abbrev keys : List DirectedPiece
-  keys = info_keys x asked tile_numbers nothing_given k c
+  keys = info_keys x asked open_numbers nothing_given k c
 
   abbrev its_texts : List (List ℕ)
-  its_texts = tile_texts x asked tile_numbers nothing_given k c
+  its_texts = tile_texts x asked open_numbers nothing_given k c
 
   abbrev entry : DirectedPiece → InfoFields
-  entry = info_entry x asked tile_numbers nothing_given k c
+  entry = info_entry x asked open_numbers nothing_given k c
 
   abbrev size : InfoFields → ℕ
-  size = entry_size x asked tile_numbers nothing_given
+  size = entry_size x asked open_numbers nothing_given
 
   same_size : (e : InfoFields) → size_of_entry (info_of_fields e) ≡ size e
   same_size e = omega arith
@@ -67,7 +67,7 @@ module _ (x : Extract) (asked k c : ℕ) where
 
   texts_by_key : texts_of_pieces (map (piece_of_extract x) keys) ≡ its_texts
   texts_by_key =
-      ap (texts_once []) (flat_map-map (λ (p : Piece). p.names) (piece_of_extract x) keys) ∙ texts_seen [] (flat_map (piece_names x asked tile_numbers nothing_given) keys)
+      ap (texts_once []) (flat_map-map (λ (p : Piece). p.names) (piece_of_extract x) keys) ∙ texts_seen [] (flat_map (piece_names x asked open_numbers nothing_given) keys)
 
   names_placed : (names : List (List ℕ)) → map (text_place its_texts) names ≡ map (λ name. first_index (same_numbers name) its_texts) names
   names_placed [] = refl
@@ -76,7 +76,7 @@ module _ (x : Extract) (asked k c : ℕ) where
   entry_is : (p : DirectedPiece) → entry_of_piece its_texts (piece_of_extract x p) ≡ info_of_fields (entry p)
   entry_is p =
       let number = sym (first_is_place (nat_eq p.from) (stops (is_junction x) 0 (run x p.way p.run))) in
-      let names = names_placed (piece_names x asked tile_numbers nothing_given p) in
+      let names = names_placed (piece_names x asked open_numbers nothing_given p) in
       λ i. record { key = record { way = p.way; run = p.run; piece = number i }; shape = (piece_of_extract x p).shape; texts = names i }
 
   entries_by_key : entries_of_pieces (map (piece_of_extract x) keys) ≡ map info_of_fields (map entry keys)
@@ -96,35 +96,35 @@ module _ (x : Extract) (asked k c : ℕ) where
 
 -- ---- the rows of a tile
 
-edges_are : (x : Extract) (nodes : List NodeRow) → flat_map (λ n. n.edges) (map (λ (r : NodeRow). node_of_extract x r.osm (map (λ l. l.first) r.links)) nodes) ≡ map (edge_of_extract x) (map (λ l. l.first) (flat_map (λ (r : NodeRow). r.links) nodes))
-edges_are x [] = refl
-edges_are x (r ∷ rs) =
-    ap (λ l. map (edge_of_extract x) (map (λ l. l.first) r.links) ++ l) (edges_are x rs)
-    ∙ sym (map-append (edge_of_extract x) (map (λ l. l.first) r.links) (map (λ l. l.first) (flat_map (λ (s : NodeRow). s.links) rs)))
-    ∙ sym (ap (map (edge_of_extract x)) (map-append (λ l. l.first) r.links (flat_map (λ (s : NodeRow). s.links) rs)))
+edges_are : (x : Extract) (k : ℕ) (nodes : List NodeRow) → flat_map (λ n. n.edges) (map (λ (r : NodeRow). node_of_extract x k r.osm (map (λ l. l.first) r.links)) nodes) ≡ map (edge_of_extract x k) (map (λ l. l.first) (flat_map (λ (r : NodeRow). r.links) nodes))
+edges_are x k [] = refl
+edges_are x k (r ∷ rs) =
+    ap (λ l. map (edge_of_extract x k) (map (λ l. l.first) r.links) ++ l) (edges_are x k rs)
+    ∙ sym (map-append (edge_of_extract x k) (map (λ l. l.first) r.links) (map (λ l. l.first) (flat_map (λ (s : NodeRow). s.links) rs)))
+    ∙ sym (ap (map (edge_of_extract x k)) (map-append (λ l. l.first) r.links (flat_map (λ (s : NodeRow). s.links) rs)))
 
-pub edges_of_table : (x : Extract) (rows : TileRows) → edges_of_rows (rows_of_table x rows) ≡ map (edge_of_extract x) (firsts_of rows)
-edges_of_table x rows = edges_are x rows.nodes
+pub edges_of_table : (x : Extract) (rows : TileRows) → edges_of_rows (rows_of_table x rows) ≡ map (edge_of_extract x rows.level) (firsts_of rows)
+edges_of_table x rows = edges_are x rows.level rows.nodes
 
 module _ (x : Extract) (asked : ℕ) (told : piece_rows x ≡ map (piece_of_extract x) (forward_pieces x)) (rows : TileRows) (among : IsIn (open_table x asked).tiles rows) where
   abbrev w : WorkRows
   w = rows_of_table x rows
 
   abbrev starts : DirectedPiece → Bool
-  starts = starts_on x asked tile_numbers nothing_given rows.level rows.tile
+  starts = starts_on x asked open_numbers nothing_given rows.level rows.tile
 
   abbrev ks : List DirectedPiece
   ks = keys x asked rows.level rows.tile
 
   of_edges : (p : DirectedPiece) → IsIn (firsts_of rows) p → IsIn (directed_pieces x) p × (starts p ≡ true)
-  of_edges p h = of_firsts x asked tile_numbers nothing_given rows.level rows.tile p (subst (λ r. IsIn (firsts_of r) p) (rows_by_number x asked tile_numbers nothing_given rows among) h)
+  of_edges p h = of_firsts x asked open_numbers nothing_given rows.level rows.tile p (subst (λ r. IsIn (firsts_of r) p) (rows_by_number x asked open_numbers nothing_given rows among) h)
 
   in_edges : (p : DirectedPiece) → IsIn (directed_pieces x) p → starts p ≡ true → IsIn (firsts_of rows) p
-  in_edges p listed on = subst (λ r. IsIn (firsts_of r) p) (sym (rows_by_number x asked tile_numbers nothing_given rows among)) (in_firsts x asked tile_numbers nothing_given rows.level rows.tile p listed on)
+  in_edges p listed on = subst (λ r. IsIn (firsts_of r) p) (sym (rows_by_number x asked open_numbers nothing_given rows among)) (in_firsts x asked open_numbers nothing_given rows.level rows.tile p listed on)
 
   -- the places of the pieces of its edges
   places_of : piece_places w ≡ rising nat_lt (map (piece_place x) (firsts_of rows))
-  places_of = ap (rising nat_lt) (ap (map (λ e. e.place)) (edges_of_table x rows) ∙ map_within (λ e. e.place) (edge_of_extract x) (piece_place x) (firsts_of rows) (λ p h. refl))
+  places_of = ap (rising nat_lt) (ap (map (λ e. e.place)) (edges_of_table x rows) ∙ map_within (λ e. e.place) (edge_of_extract x rows.level) (piece_place x) (firsts_of rows) (λ p h. refl))
 
   keys_are : filter (starts_either x starts) (forward_pieces x) ≡ ks
   keys_are = filter_both (λ p. p.forward) (starts_either x starts) (directed_pieces x)
@@ -143,7 +143,7 @@ module _ (x : Extract) (asked : ℕ) (told : piece_rows x ≡ map (piece_of_extr
   pub texts_told : texts_of_rows (piece_rows x) w ≡ (told_so_far x asked).texts rows.level rows.tile
   texts_told = ap texts_of_pieces pieces_are_keys ∙ texts_by_key x asked rows.level rows.tile
 
-  offset_is : StartsAreSums → (p : DirectedPiece) → IsIn (firsts_of rows) p → entry_offset (piece_rows x) w (edge_of_extract x p) ≡ info_offset x asked tile_numbers nothing_given rows.level rows.tile p
+  offset_is : StartsAreSums → (p : DirectedPiece) → IsIn (firsts_of rows) p → entry_offset (piece_rows x) w (edge_of_extract x rows.level p) ≡ info_offset x asked open_numbers nothing_given rows.level rows.tile p
   offset_is sums p h =
       let place : position_or_len (nat_eq (piece_place x p)) (piece_places w) ≡ first_index (is_of_piece p) ks =
       ap (position_or_len (nat_eq (piece_place x p))) places_of ∙ place_in_places x starts (firsts_of rows) of_edges in_edges p h ∙ ap (first_index (is_of_piece p)) keys_are in
@@ -155,5 +155,5 @@ module _ (x : Extract) (asked : ℕ) (told : piece_rows x ≡ map (piece_of_extr
   pub offsets_told : StartsAreSums → map (entry_offset (piece_rows x) w) (edges_of_rows w) ≡ map (λ l. (told_so_far x asked).info rows.level rows.tile l.first) (links_of rows)
   offsets_told sums =
       ap (map (entry_offset (piece_rows x) w)) (edges_of_table x rows)
-      ∙ map_within (entry_offset (piece_rows x) w) (edge_of_extract x) (info_offset x asked tile_numbers nothing_given rows.level rows.tile) (firsts_of rows) (offset_is sums)
-      ∙ map_within (info_offset x asked tile_numbers nothing_given rows.level rows.tile) (λ l. l.first) (λ l. (told_so_far x asked).info rows.level rows.tile l.first) (links_of rows) (λ l h. refl)
+      ∙ map_within (entry_offset (piece_rows x) w) (edge_of_extract x rows.level) (info_offset x asked open_numbers nothing_given rows.level rows.tile) (firsts_of rows) (offset_is sums)
+      ∙ map_within (info_offset x asked open_numbers nothing_given rows.level rows.tile) (λ l. l.first) (λ l. (told_so_far x asked).info rows.level rows.tile l.first) (links_of rows) (λ l h. refl)

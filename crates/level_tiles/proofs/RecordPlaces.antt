@@ -1,6 +1,6 @@
 -- Lists: look-ups over a list, and over what each of its elements becomes.
 use Rattle.std.proofs.Common.{◌≡◌, ℕ, zero, suc, ◌+◌, ◌<◌, refl, sym, ◌∙◌, ap, subst, List, [], ◌∷◌, ◌++◌, length, get_or, map, Bool, true, false, cond, Some, None, find, inl, inr, arith}
-use Rattle.std.specs.Prelude.{◌⊎◌, ◌||◌, filter, unwrap_or, not, nat_lt, nat_eq, All}
+use Rattle.std.specs.Prelude.{◌⊎◌, ◌||◌, ◌&&◌, filter, unwrap_or, not, nat_lt, nat_eq, All}
 use Rattle.std.specs.List.{flat_map, list_any, position, position_or_len, zip}
 use Rattle.std.specs.Option.{option_map}
 use Rattle.std.proofs.lemmas.Bool.{both_ways, lt-ltb, eqb-true, eq-eqb}
@@ -20,9 +20,9 @@ none_pass test [] fails = refl
 none_pass test (e ∷ es) fails =
     ap (λ b. cond b (e ∷ filter test es) (filter test es)) (fails e (inl refl)) ∙ none_pass test es (λ d h. fails d (inr h))
 
-pub none_has : {E : Type 0} (test : E → Bool) (es : List E) → ((e : E) → test e ≡ false) → list_any test es ≡ false
+pub none_has : {E : Type 0} (test : E → Bool) (es : List E) → ((e : E) → IsIn es e → test e ≡ false) → list_any test es ≡ false
 none_has test [] fails = refl
-none_has test (e ∷ es) fails = by (test e) (list_any test es) (fails e) (none_has test es fails)
+none_has test (e ∷ es) fails = by (test e) (list_any test es) (fails e (inl refl)) (none_has test es (λ d h. fails d (inr h)))
   where
     by : (a b : Bool) → a ≡ false → b ≡ false → (a || b) ≡ false
     by true b h rest = h
@@ -43,11 +43,21 @@ pub map_of_map : {E A B : Type 0} (f : E → A) (g : A → B) (es : List E) → 
 map_of_map f g [] = refl
 map_of_map f g (e ∷ es) = ap (λ l. g (f e) ∷ l) (map_of_map f g es)
 
--- where each element becomes none
-pub none_of_each : {E A : Type 0} (f : E → List A) (es : List E) → ((e : E) → IsIn es e → f e ≡ []) → flat_map f es ≡ []
-none_of_each f [] none = refl
-none_of_each f (e ∷ es) none =
-    ap (λ l. l ++ flat_map f es) (none e (inl refl)) ∙ none_of_each f es (λ d h. none d (inr h))
+-- what each of some elements becomes, one after the other
+pub flat_alike : {E A : Type 0} (f g : E → List A) (es : List E) → ((e : E) → IsIn es e → f e ≡ g e) → flat_map f es ≡ flat_map g es
+flat_alike f g [] same = refl
+flat_alike f g (e ∷ es) same = λ i. same e (inl refl) i ++ flat_alike f g es (λ d h. same d (inr h)) i
+
+-- one for each element that passes no first test, but a second
+pub flat_filter : {E A : Type 0} (a b : E → Bool) (g : E → A) (es : List E) → flat_map (λ e. cond (a e) [] (cond (b e) (g e ∷ []) [])) es ≡ map g (filter (λ e. not (a e) && b e) es)
+flat_filter a b g [] = refl
+flat_filter a b g (e ∷ es) = by (a e) (b e) (flat_filter a b g es)
+  where
+    by : (s t : Bool) → flat_map (λ d. cond (a d) [] (cond (b d) (g d ∷ []) [])) es ≡ map g (filter (λ d. not (a d) && b d) es)
+        → (cond s [] (cond t (g e ∷ []) []) ++ flat_map (λ d. cond (a d) [] (cond (b d) (g d ∷ []) [])) es) ≡ map g (cond (not s && t) (e ∷ filter (λ d. not (a d) && b d) es) (filter (λ d. not (a d) && b d) es))
+    by true t rest = rest
+    by false true rest = ap (λ l. g e ∷ l) rest
+    by false false rest = rest
 
 -- two lists that are made from one, side by side
 pub zip_maps : {E A B : Type 0} (f : E → A) (g : E → B) (es : List E) → zip (map f es) (map g es) ≡ map (λ e. (f e, g e)) es
@@ -90,7 +100,17 @@ first_passing_has test Has (f ∷ es) d e h passes each =
     by false t (inl is) rest = absurd (both_ways (test f) t (ap test is ∙ passes))
     by false t (inr there) rest = rest there
 
-index_inside : {E : Type 0} (test : E → Bool) (es : List E) (e : E) → IsIn es e → test e ≡ true → first_index test es < length es
+-- the first element that passes is one of them
+pub first_passing : {E : Type 0} (test : E → Bool) (es : List E) (d : E) → first_index test es < length es → IsIn es (get_or es (first_index test es) d) × (test (get_or es (first_index test es) d) ≡ true)
+first_passing test [] d h = absurd (omega (arith, h))
+first_passing test (f ∷ es) d h = by (test f) refl h (first_passing test es d)
+  where
+    by : (b : Bool) → test f ≡ b → cond b 0 (suc (first_index test es)) < suc (length es) → (first_index test es < length es → IsIn es (get_or es (first_index test es) d) × (test (get_or es (first_index test es) d) ≡ true))
+        → IsIn (f ∷ es) (get_or (f ∷ es) (cond b 0 (suc (first_index test es))) d) × (test (get_or (f ∷ es) (cond b 0 (suc (first_index test es))) d) ≡ true)
+    by true t h rest = (inl refl, t)
+    by false t h rest = let (there, passes) = rest (omega (arith, h)) in (inr there, passes)
+
+pub index_inside : {E : Type 0} (test : E → Bool) (es : List E) (e : E) → IsIn es e → test e ≡ true → first_index test es < length es
 index_inside test [] e h passes = absurd h
 index_inside test (f ∷ es) e h passes = by (test f) refl h (λ k. index_inside test es e k passes)
   where

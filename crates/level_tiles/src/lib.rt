@@ -1,6 +1,6 @@
-//! The tiles that kept rows make are those of the folder: the law.
+//! The tiles that lifted rows make are those of the folder: the law.
 #![tactic(auto)]
 
 mod laws;
 
-pub use laws::kept_make_tiles;
+pub use laws::lifted_make_tiles;

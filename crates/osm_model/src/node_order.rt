@@ -35,6 +35,7 @@ pub(crate) fn placed_spots(alloc: Global, spots: &[Spot]) -> Result<Vec<PlacedSp
 fn add_placed(
     old: &[TagSpan],
     one: &PlacedSpot,
+    starts: &[u32],
     spots: &mut Vec<Spot>,
     spans: &mut Vec<TagSpan>,
 ) -> Result<(), AllocError>
@@ -45,7 +46,7 @@ fn add_placed(
 {
     let place = spots.len();
     spots.push(one.spot)?;
-    match find_span(old, one.place) {
+    match find_span(old, starts, one.place) {
         Some(k) => {
             let span = old[k];
             spans.push(TagSpan {
@@ -59,11 +60,12 @@ fn add_placed(
     }
 }
 
-/// The spots and spans of a list that has the nodes in this order.
+/// The spots and spans of a list that has the nodes in this order. The starts are those of the old list.
 pub(crate) fn in_order(
     alloc: Global,
     old: &[TagSpan],
     placed: &[PlacedSpot],
+    starts: &[u32],
 ) -> Result<(Vec<Spot>, Vec<TagSpan>), AllocError>
     requires rises { SpansRise old.now }
     requires few { length placed.now < 2 ^ 32 }
@@ -72,7 +74,7 @@ pub(crate) fn in_order(
     let mut spots = Vec::with_capacity(alloc, placed.len())?;
     let mut spans = Vec::with_capacity(alloc, old.len())?;
     for one in placed {
-        add_placed(old, one, &mut spots, &mut spans)?;
+        add_placed(old, one, starts, &mut spots, &mut spans)?;
     }
     Ok((spots, spans))
 }

@@ -12,7 +12,7 @@ use Rattle.work_tile.specs.WorkRows.{WorkRows}
 use Rattle.tile_infos.specs.TileTexts.{texts_of_pieces}
 use Rattle.tile_infos.specs.TileEntries.{pieces_at, entries_of_pieces}
 use Rattle.tile_infos.specs.TileChecks.{HasEntry, KeysRise}
-use Rattle.tile_numbers.specs.Records.{edges_of_rows, node_records_of, edge_records_of}
+use Rattle.tile_numbers.specs.Records.{edges_of_rows, node_records_of, edge_records_of, transitions_of_rows}
 use Rattle.tile_numbers.specs.Limits.{TilesCanBeNumbered}
 use Rattle.tile_number_laws.specs.NumberedChecks.{IsInTile}
 use Rattle.tile_bytes.specs.declared.tile.Tile.{Tile}
@@ -38,14 +38,14 @@ texts_of_rows pieces rows = texts_of_pieces (pieces_of_rows pieces rows)
 abbrev pub entry_offset : List Piece → WorkRows → WorkEdge → ℕ
 entry_offset pieces rows e = slice_index_or (starts_of (entries_of_rows pieces rows)) (position_or_len (nat_eq e.place) (piece_places rows)) 0
 
--- the tile of rows among other tiles, for these modes; transitions, chains and sequences aren't built yet
+-- the tile of rows among other tiles, for these modes; chains and sequences aren't built yet
 abbrev pub finished_tile : ℕ → List Piece → List WorkRows → WorkRows → Tile
 finished_tile modes pieces tiles rows = record {
   id = value_of rows.level rows.tile 0;
   modes = modes;
-  nodes = node_records_of rows;
+  nodes = node_records_of tiles rows;
   edges = edge_records_of tiles rows (map (entry_offset pieces rows) (edges_of_rows rows));
-  transitions = [];
+  transitions = transitions_of_rows tiles rows;
   chains = [];
   sequences = [];
   infos = entries_of_rows pieces rows;

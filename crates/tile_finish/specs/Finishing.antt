@@ -10,7 +10,7 @@ use Rattle.tile_bytes.specs.declared.write.WriteFault.{WriteFault}
 use Rattle.tile_bytes.specs.declared.write.WriteFault.TheVariants as faults
 use Rattle.tile_bytes.specs.Writing.{first_above}
 use Rattle.graph_id.specs.GraphId.{value_of}
-use Rattle.tile_numbers.specs.Records.{node_records_of, edge_records_of}
+use Rattle.tile_numbers.specs.Records.{node_records_of, edge_records_of, transitions_of_rows}
 
 -- what stands at the place of a number among others
 abbrev pub start_at_place : List ℕ → List ℕ → ℕ → ℕ
@@ -37,9 +37,9 @@ abbrev pub assembled_tile : ℕ → List WorkRows → WorkRows → List ℕ → 
 assembled_tile modes tiles rows offsets infos texts = record {
   id = value_of rows.level rows.tile 0;
   modes = modes;
-  nodes = node_records_of rows;
+  nodes = node_records_of tiles rows;
   edges = edge_records_of tiles rows offsets;
-  transitions = [];
+  transitions = transitions_of_rows tiles rows;
   chains = [];
   sequences = [];
   infos = infos;

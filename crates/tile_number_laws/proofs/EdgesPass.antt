@@ -12,10 +12,11 @@ use Rattle.work_tile.specs.declared.edge_rows.WorkEdge.{WorkEdge}
 use Rattle.work_tile.specs.WorkRows.{WorkNode, WorkRows}
 use Rattle.tile_numbers.specs.LookUps.{work_rows_at, node_index}
 use Rattle.tile_numbers.specs.Records.{numbered_edge, numbered_edges, edges_of_rows}
+use Rattle.tile_numbers.proofs.OtherNodes.{all_few}
 use Rattle.tile_number_laws.specs.NumberedChecks.{NumberedEdgesPass, NumberedCountsAgree}
-use Rattle.tile_number_laws.proofs.NodesPass.{edges_counted, transitions_counted}
+use Rattle.tile_number_laws.proofs.NodesPass.{edges_counted, transitions_counted, nodes_counted}
 
-level_is : (level tile id : ℕ) → level ≤ 2 → level_of (value_of level tile id) ≡ level
+pub level_is : (level tile id : ℕ) → level ≤ 2 → level_of (value_of level tile id) ≡ level
 level_is level tile id l = omega (arith, l)
 
 all_good : (level : ℕ) (before es : List EdgeFields) → All (λ e. edge_passes level [] e ≡ true) es → All EdgeFits es → AllGood (IsEdgeRecord level) before es
@@ -57,7 +58,8 @@ many tiles level tile (e ∷ es) [] same = absurd (omega arith)
 many tiles level tile (e ∷ es) (o ∷ os) same = let k = many tiles level tile es os (omega (arith, same)) in omega (arith, k)
 
 pub counts_agree : NumberedCountsAgree
-counts_agree tiles rows offsets same = record {
-  edges = edges_counted 0 rows.nodes ∙ sym (length-flat_map (λ (n : WorkNode). n.edges) rows.nodes) ∙ sym (many tiles rows.level rows.tile (edges_of_rows rows) offsets same);
-  transitions = transitions_counted 0 rows.nodes;
+counts_agree tiles rows offsets low same = record {
+  edges = edges_counted tiles rows.level 0 0 rows.nodes ∙ sym (length-flat_map (λ (n : WorkNode). n.edges) rows.nodes) ∙ sym (many tiles rows.level rows.tile (edges_of_rows rows) offsets same);
+  transitions = transitions_counted tiles rows.level 0 0 rows.nodes;
+  few_transitions = omega (arith, all_few tiles rows.level low rows.nodes, nodes_counted tiles rows.level 0 0 rows.nodes);
 }

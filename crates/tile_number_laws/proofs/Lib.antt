@@ -1,2 +1,3 @@
 mod NodesPass
 mod EdgesPass
+mod OthersPass

@@ -3,6 +3,7 @@ use Rattle.std.proofs.Common.{◌≡◌, ◌∙◌, ℕ, ℤ, ◌<◌, ◌≤◌
 use Rattle.std.specs.Prelude.{All, unwrap_or, Result, Ok, IfOk}
 use Rattle.std.specs.Option.{option_map}
 use Rattle.std.specs.List.{position, position_or_len, find, slice_get}
+use Rattle.std.proofs.lemmas.Int.{ints}
 use Rattle.std.proofs.lemmas.Bool.{cases_lt}
 use Rattle.std.proofs.lemmas.List.{get_or_default, get_or_past}
 use Rattle.std.proofs.lemmas.List.Sums.{prefix_len-le-length}
@@ -51,7 +52,7 @@ pub node_within : (rows : WorkRows) (osm : ℤ) → node_index rows osm ≤ leng
 node_within rows osm = prefix_len-le-length _ rows.nodes
 
 no_node_is_recorded : IsRecordedNode no_work_node
-no_node_is_recorded = record { few = omega arith; each = λ k d h. absurd (omega (arith, h)) }
+no_node_is_recorded = record { place = record { from_south = omega (arith, ints); to_north = omega (arith, ints); from_west = omega (arith, ints); to_east = omega (arith, ints) }; few = omega arith; each = λ k d h. absurd (omega (arith, h)) }
 
 end_is_recorded : (rows : WorkRows) (e : WorkEdge) → CanBeNumbered rows → IsRecordedNode (get_or rows.nodes (node_index rows e.end) no_work_node)
 end_is_recorded rows e can = elim (cases_lt (node_index rows e.end) (length rows.nodes)) [

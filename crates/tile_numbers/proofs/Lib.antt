@@ -3,4 +3,5 @@ mod BackEdges
 mod TilesFound
 mod FullTiles
 mod Fits
+pub mod OtherNodes
 mod RecordLists

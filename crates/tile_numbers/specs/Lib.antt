@@ -1,3 +1,4 @@
 pub mod LookUps
 pub mod Records
 pub mod Limits
+pub mod Progress

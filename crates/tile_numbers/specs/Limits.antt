@@ -1,6 +1,7 @@
 -- Which tiles can be numbered, and the first that has too much for that.
 use Rattle.std.specs.Prelude.{ℕ, ◌<◌, ◌≤◌, nat_lt, List, [], ◌∷◌, length, sum_by, All, Option, Some, None, if◌then◌else◌}
 use Rattle.std.specs.Option.{option_or}
+use Rattle.fixed_geo.specs.Place.{IsPlace}
 use Rattle.osm_model.specs.Extract.{IdsRise}
 use Rattle.road_pieces.specs.declared.limits.TheConstants.{LONGEST_PIECE_CM}
 use Rattle.work_tile.specs.declared.edge_rows.WorkEdge.{WorkEdge}
@@ -28,8 +29,9 @@ pub record IsRecordedEdge (e : WorkEdge) : Type 0 where
   pub local : e.local ≤ 127
   pub class : e.class ≤ 7
 
--- at a node begin at most 127 edges
+-- a node is a place on the earth, at which at most 127 edges begin
 pub record IsRecordedNode (n : WorkNode) : Type 0 where
+  pub place : IsPlace n.at
   pub few : length n.edges ≤ 127
   pub each : All IsRecordedEdge n.edges
 

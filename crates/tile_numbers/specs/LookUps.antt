@@ -1,8 +1,10 @@
--- Where the end of an edge stands in a list of tiles, and its opposing edge.
-use Rattle.std.specs.Prelude.{◌==◌, ◌&&◌, ℕ, ℤ, pos, Bool, false, not, List, [], unwrap_or, slice_index_or, if◌then◌else◌}
-use Rattle.std.specs.List.{position, position_or_len, find}
+-- Where the end of an edge stands in a list of tiles, its opposing edge, and the other nodes of a junction.
+use Rattle.std.specs.Prelude.{◌==◌, ◌&&◌, ℕ, ℤ, pos, Bool, false, not, List, [], ◌∷◌, length, nat_eq, nat_lt, unwrap_or, slice_index_or, if◌then◌else◌}
+use Rattle.std.specs.List.{position, position_or_len, find, flat_map}
 use Rattle.std.specs.Option.{option_map}
 use Rattle.std.specs.Ordering.{int_eq}
+use Rattle.graph_id.specs.GraphId.{value_of}
+use Rattle.tile_geometry.specs.Grid.{grid_tile}
 use Rattle.road_pieces.specs.declared.dir_key.DirKey.{DirKey}
 use Rattle.work_tile.specs.declared.edge_rows.WorkEdge.{WorkEdge}
 use Rattle.work_tile.specs.WorkRows.{WorkNode, WorkRows}
@@ -44,3 +46,18 @@ opposing_index rows e = unwrap_or (position (runs_back e.key) (edges_at_end rows
 
 abbrev pub opposing_local_index : WorkRows → WorkEdge → ℕ
 opposing_local_index rows e = unwrap_or (option_map (λ f. f.local) (find (runs_back e.key) (edges_at_end rows e))) 0
+
+-- the GraphId of a junction's node in a tile of these rows, if it has one there
+abbrev pub node_in : WorkRows → ℕ → ℕ → ℤ → List ℕ
+node_in rows level tile osm = if nat_lt (node_index rows osm) (length rows.nodes) then value_of level tile (node_index rows osm) ∷ [] else []
+
+-- that of its node on a level, in the tile of its place; that level not being this one
+abbrev pub node_on_level : List WorkRows → ℕ → WorkNode → List ℕ
+node_on_level tiles level n = node_in (work_rows_at tiles level (grid_tile level n.at)) level (grid_tile level n.at) n.osm
+
+abbrev pub node_on_other : List WorkRows → ℕ → WorkNode → ℕ → List ℕ
+node_on_other tiles level n other = if nat_eq other level then [] else node_on_level tiles other n
+
+-- the other nodes of the junction of a node of a level: its transitions
+unfoldable pub other_nodes : List WorkRows → ℕ → WorkNode → List ℕ
+other_nodes tiles level n = flat_map (node_on_other tiles level n) (0 ∷ (1 ∷ (2 ∷ [])))

@@ -31,7 +31,7 @@ fn order_at(rows: &TileRows, i: usize, osm: &i64) -> Ordering
 }
 
 /// The index of a junction's node, by halves; where there is none, the number of nodes.
-fn node_place(rows: &TileRows, osm: &i64) -> usize
+pub(crate) fn node_place(rows: &TileRows, osm: &i64) -> usize
     requires { IdsRise (λ (n : WorkNode). n.osm) rows.now.nodes }
     ensures is { result ≡ node_index rows.now osm.now }
     ensures within { result ≤ length rows.now.nodes }
@@ -107,7 +107,7 @@ fn end_in(rows: &TileRows, edge: &WorkEdge) -> End
 }
 
 /// The rows of a level's tile, and `None` where it isn't among the tiles.
-fn rows_found<'a>(
+pub(crate) fn rows_found<'a>(
     tiles: &'a [WorkTile],
     places: &Places,
     level: u32,

@@ -4,6 +4,7 @@
 mod ends;
 mod numbering;
 mod room;
+mod transitions;
 
 pub use numbering::{NumberedTile, number_tile};
 pub use room::{MOST_RECORDS, TileFull, What, first_full};

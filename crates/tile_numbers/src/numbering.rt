@@ -1,40 +1,46 @@
 //! The records of a tile.
-ghost use Rattle.std.specs.Prelude.{◌≡◌, ◌≤◌, ◌<◌, ◌+◌, ◌++◌, length, slice_index_or, slice_range, IfOk, OnOk};
+ghost use Rattle.std.specs.Prelude.{◌≡◌, ◌≤◌, ◌<◌, ◌+◌, ◌*◌, ◌++◌, length, slice_index_or, slice_range, IfOk, OnOk};
 ghost use Rattle.work_tile.specs.Places.{place_numbers};
 ghost use Rattle.tile_numbers.specs.declared.room.TheConstants.{MOST_RECORDS};
 ghost use Rattle.tile_numbers.specs.LookUps.{no_rows, work_rows_at};
-ghost use Rattle.tile_numbers.specs.Records.{numbered_node, numbered_edge, numbered_edges, edges_of_rows, node_records_of, edge_records_of};
+ghost use Rattle.tile_numbers.specs.Records.{numbered_node, numbered_edge, numbered_edges, edges_of_rows, node_records_of, edge_records_of, transitions_of_rows};
+ghost use Rattle.tile_numbers.specs.Progress.{AreSoFar};
 ghost use Rattle.tile_numbers.specs.Limits.{IsRecordedEdge, IsRecordedNode, CanBeNumbered, TilesCanBeNumbered};
 
 use crate::ends::end_of;
+use crate::transitions::push_transitions;
 use graph_id::GraphId;
 use std::alloc::{AllocError, Global};
 use tile_records::{EdgeRec, NodeRec};
 use work_tile::{NodeView, Places, TileRows, WorkEdge, WorkTile};
 
-/// The records of a tile: its nodes in order, and the edges that start at them, node by node.
+/// The records of a tile: its nodes in order, and the edges that start at them, node by node; and the GraphIds of the
+/// other nodes of their junctions, node by node.
 #[derive(Debug, Drop)]
 pub struct NumberedTile {
     pub nodes: Vec<NodeRec>,
     pub edges: Vec<EdgeRec>,
+    pub transitions: Vec<GraphId>,
 }
 
-/// The record of a node before which so many edges stand.
-fn node_record(before: u32, node: &NodeView<'_>) -> NodeRec
-    requires before { before ≤ MOST_RECORDS }
+/// The record of a node before which so many edges and transitions stand, and which has so many transitions.
+fn node_record(edges: u32, transitions: u32, others: u8, node: &NodeView<'_>) -> NodeRec
+    requires edges { edges ≤ MOST_RECORDS }
+    requires transitions { transitions ≤ 2 * MOST_RECORDS }
+    requires others { others ≤ 2 }
     requires node { IsRecordedNode node.now }
-    ensures { result ≡ numbered_node before node.now }
+    ensures { result ≡ numbered_node edges transitions others node.now }
 {
     let at = node.at();
     NodeRec {
         osm: node.osm(),
         lat: at.lat,
         lon: at.lon,
-        edge_index: before,
-        transition_index: 0,
+        edge_index: edges,
+        transition_index: transitions,
         access: node.access(),
         edge_count: node.edges_len() as u8,
-        transition_count: 0,
+        transition_count: others,
         density: 0,
         barrier: node.barrier(),
     }
@@ -116,6 +122,40 @@ fn part_of(offsets: &[u32], from: usize, to: usize) -> &[u32]
     &offsets[from..to]
 }
 
+/// The records of the node at index `k` of a tile, put behind those of the nodes before it.
+fn push_records(
+    tile: &mut NumberedTile,
+    tiles: &[WorkTile],
+    places: &Places,
+    rows: &TileRows,
+    offsets: &[u32],
+    k: usize,
+) -> Result<(), AllocError>
+    requires inside { k < length rows.now.nodes }
+    requires tiles { TilesCanBeNumbered tiles.now }
+    requires places { places.now ≡ place_numbers tiles.now }
+    requires rows { CanBeNumbered rows.now }
+    requires offsets { length offsets.now ≡ length (edges_of_rows rows.now) }
+    requires before { AreSoFar tiles.now rows.now offsets.now k tile.old.nodes.items tile.old.edges.items tile.old.transitions.items }
+    ensures { OnOk result (AreSoFar tiles.now rows.now offsets.now (k + 1) tile.new.nodes.items tile.new.edges.items tile.new.transitions.items) }
+{
+    let node = rows.node(k);
+    let (from, shifts) = (tile.edges.len(), tile.transitions.len());
+    let to = from + node.edges_len();
+    push_transitions(&mut tile.transitions, tiles, places, rows.level(), &node)?;
+    let others = tile.transitions.len() - shifts;
+    tile.nodes.push(node_record(from as u32, shifts as u32, others as u8, &node))?;
+    push_edges(
+        &mut tile.edges,
+        tiles,
+        places,
+        rows.level(),
+        rows.tile(),
+        &node,
+        part_of(offsets, from, to),
+    )
+}
+
 /// The records of a tile that has these rows.
 fn numbered(
     alloc: Global,
@@ -128,27 +168,19 @@ fn numbered(
     requires places { places.now ≡ place_numbers tiles.now }
     requires rows { CanBeNumbered rows.now }
     requires offsets { length offsets.now ≡ length (edges_of_rows rows.now) }
-    ensures nodes { IfOk result (λ t. t.nodes.items ≡ node_records_of rows.now) }
+    ensures nodes { IfOk result (λ t. t.nodes.items ≡ node_records_of tiles.now rows.now) }
     ensures edges { IfOk result (λ t. t.edges.items ≡ edge_records_of tiles.now rows.now offsets.now) }
+    ensures transitions { IfOk result (λ t. t.transitions.items ≡ transitions_of_rows tiles.now rows.now) }
 {
-    let mut nodes = Vec::with_capacity(alloc, rows.nodes_len())?;
-    let mut edges = Vec::with_capacity(alloc, offsets.len())?;
+    let mut tile = NumberedTile {
+        nodes: Vec::with_capacity(alloc, rows.nodes_len())?,
+        edges: Vec::with_capacity(alloc, offsets.len())?,
+        transitions: Vec::new(alloc),
+    };
     for k in 0..rows.nodes_len() {
-        let node = rows.node(k);
-        let from = edges.len();
-        let to = from + node.edges_len();
-        nodes.push(node_record(from as u32, &node))?;
-        push_edges(
-            &mut edges,
-            tiles,
-            places,
-            rows.level(),
-            rows.tile(),
-            &node,
-            part_of(offsets, from, to),
-        )?;
+        push_records(&mut tile, tiles, places, rows, offsets, k)?;
     }
-    Ok(NumberedTile { nodes, edges })
+    Ok(tile)
 }
 
 /// The records of the tile with index `i` among tiles that rise by level and number. `places` are the places of these
@@ -165,8 +197,9 @@ pub fn number_tile(
     requires tiles { TilesCanBeNumbered tiles.now }
     requires places { places.now ≡ place_numbers tiles.now }
     requires offsets { length offsets.now ≡ length (edges_of_rows (slice_index_or tiles.now i no_rows)) }
-    ensures nodes { IfOk result (λ t. t.nodes.items ≡ node_records_of (slice_index_or tiles.now i no_rows)) }
+    ensures nodes { IfOk result (λ t. t.nodes.items ≡ node_records_of tiles.now (slice_index_or tiles.now i no_rows)) }
     ensures edges { IfOk result (λ t. t.edges.items ≡ edge_records_of tiles.now (slice_index_or tiles.now i no_rows) offsets.now) }
+    ensures transitions { IfOk result (λ t. t.transitions.items ≡ transitions_of_rows tiles.now (slice_index_or tiles.now i no_rows)) }
 {
     numbered(alloc, tiles, places, tiles[i].rows(), offsets)
 }

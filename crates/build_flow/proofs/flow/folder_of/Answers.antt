@@ -6,7 +6,7 @@ use Rattle.build_flow.proofs.flow.folder_of.Goals as goal
 
 pub files_of_roads-requires-clause-roads : goal.files_of_roads-requires-clause-roads
 files_of_roads-requires-clause-roads c =
-    can_be_built c.args.extract c.args.modes c.extract_roads.ensures c.lifted_are_finishable.ensures c.in-Ok.roads c.in-Ok.ensures.roads c.pieces_spell.ensures c.in-Ok.ensures.accepted
+    can_be_built c.args.extract c.args.modes c.extract_roads.ensures c.kept_own_nodes.ensures c.lifted_are_finishable.ensures c.in-Ok.roads c.in-Ok.ensures.roads c.pieces_spell.ensures c.in-Ok.ensures.accepted
 
 pub returns-in-Ok-clause-files : goal.returns-in-Ok-clause-files
 returns-in-Ok-clause-files c =

@@ -1,0 +1,5 @@
+mod PatternLemmas
+pub mod BitNumbers
+mod MaskLemmas
+mod LocalLemmas
+mod Steps

@@ -1,0 +1,3 @@
+pub mod PatternRows
+pub mod Codes
+pub mod Locals

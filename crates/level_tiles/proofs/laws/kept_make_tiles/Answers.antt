@@ -1,6 +1,0 @@
-use Rattle.level_tiles.proofs.EntryWhole.{kept_make_the_tiles}
-use Rattle.level_tiles.proofs.EntryRecords.{records_are_told}
-use Rattle.level_tiles.proofs.laws.kept_make_tiles.Goals as goal
-
-pub returns : goal.returns
-returns c = kept_make_the_tiles c.pieces_told_forward.ensures c.kept_are_table.ensures c.starts_are_sums.ensures.each (records_are_told c.open_table_is_plain.ensures)

@@ -1,0 +1,6 @@
+mod Pairs
+mod PieceCodes
+mod CodeLaws
+mod PlaceLaws
+mod StartLaws
+mod LocalLaws

@@ -1,0 +1,2 @@
+pub mod AtCodes
+pub mod CodePlaces
