@@ -3,7 +3,7 @@
 use std::alloc::{AllocError, Global};
 
 /// The longest walks that are looked for, in centimetres.
-pub(crate) const BOUND: usize = 1_500;
+pub(crate) const BOUND: usize = 1_000;
 
 /// The set of this number alone; of none where it isn't below 64.
 pub(crate) fn bit(number: usize) -> u64 {

@@ -101,8 +101,8 @@ fn compare<R: Threads + Sync + AllocGlobal>(
     Ok(())
 }
 
-/// Compares both searches on a hundred extracts, drawn from there on.
-fn compare_hundred<R: Threads + Sync + AllocGlobal>(
+/// Compares both searches on thirty extracts, drawn from there on.
+fn compare_thirty<R: Threads + Sync + AllocGlobal>(
     rt: &R,
     state: u64,
 ) -> Result<[u64; 3], AllocError> {
@@ -112,27 +112,69 @@ fn compare_hundred<R: Threads + Sync + AllocGlobal>(
         with_transitions: 0,
         walks: 0,
     };
-    for _ in 0..100 {
+    for _ in 0..30 {
         compare(rt, &mut dice, &mut compared)?;
     }
     Ok([compared.agreed, compared.with_transitions, compared.walks])
 }
 
-// The numbers of extracts with transitions and of walks are those that another program counted.
+// How many extracts have transitions, and how many walks there are, was counted by another program.
 #[test]
-fn first_hundred(rt: HostRuntime) -> Result<(), Fail> {
-    assert_eq!(rt; compare_hundred(&rt, 1)?, [100, 37, 29_727]);
+fn first_thirty(rt: HostRuntime) -> Result<(), Fail> {
+    assert_eq!(rt; compare_thirty(&rt, 1)?, [30, 10, 3_301]);
     Ok(())
 }
 
 #[test]
-fn second_hundred(rt: HostRuntime) -> Result<(), Fail> {
-    assert_eq!(rt; compare_hundred(&rt, 2)?, [100, 46, 19_080]);
+fn second_thirty(rt: HostRuntime) -> Result<(), Fail> {
+    assert_eq!(rt; compare_thirty(&rt, 2)?, [30, 15, 2_416]);
     Ok(())
 }
 
 #[test]
-fn third_hundred(rt: HostRuntime) -> Result<(), Fail> {
-    assert_eq!(rt; compare_hundred(&rt, 3)?, [100, 36, 15_294]);
+fn third_thirty(rt: HostRuntime) -> Result<(), Fail> {
+    assert_eq!(rt; compare_thirty(&rt, 3)?, [30, 7, 2_279]);
+    Ok(())
+}
+
+#[test]
+fn fourth_thirty(rt: HostRuntime) -> Result<(), Fail> {
+    assert_eq!(rt; compare_thirty(&rt, 4)?, [30, 12, 2_749]);
+    Ok(())
+}
+
+#[test]
+fn fifth_thirty(rt: HostRuntime) -> Result<(), Fail> {
+    assert_eq!(rt; compare_thirty(&rt, 5)?, [30, 13, 2_861]);
+    Ok(())
+}
+
+#[test]
+fn sixth_thirty(rt: HostRuntime) -> Result<(), Fail> {
+    assert_eq!(rt; compare_thirty(&rt, 6)?, [30, 14, 2_722]);
+    Ok(())
+}
+
+#[test]
+fn seventh_thirty(rt: HostRuntime) -> Result<(), Fail> {
+    assert_eq!(rt; compare_thirty(&rt, 7)?, [30, 7, 1_989]);
+    Ok(())
+}
+
+#[test]
+fn eighth_thirty(rt: HostRuntime) -> Result<(), Fail> {
+    assert_eq!(rt; compare_thirty(&rt, 8)?, [30, 9, 4_352]);
+    Ok(())
+}
+
+#[test]
+fn ninth_thirty(rt: HostRuntime) -> Result<(), Fail> {
+    assert_eq!(rt; compare_thirty(&rt, 9)?, [30, 13, 3_135]);
+    Ok(())
+}
+
+#[test]
+fn tenth_thirty(rt: HostRuntime) -> Result<(), Fail> {
+    assert_eq!(rt; compare_thirty(&rt, 10)?, [30, 10, 2_950]);
     Ok(())
 }

@@ -35,34 +35,57 @@ fn may_follow(roads: &Roads, open: u64, step: &Step, next: &Step, mode: u16) -> 
         && (step.goes_on(next) || roads.junctions & node != 0)
 }
 
-/// Goes on from one segment, to whose end walks of a length lead.
-fn go_on(roads: &Roads, open: u64, step: &Step, length: usize, mode: u16, reached: &mut Vec<u64>) {
+/// The segments that may come next behind that one in a walk of the mode, as a set of their numbers.
+fn followers_of(roads: &Roads, open: u64, step: &Step, mode: u16) -> u64 {
+    let mut set = 0u64;
     let mut number = 0usize;
     for next in &roads.steps {
         if may_follow(roads, open, step, next, mode) {
+            set |= bit(number);
+        }
+        number = number.saturating_add(1);
+    }
+    set
+}
+
+/// The same for each segment.
+fn followers(alloc: Global, roads: &Roads, open: u64, mode: u16) -> Result<Vec<u64>, AllocError> {
+    let mut sets = Vec::new(alloc);
+    for step in &roads.steps {
+        sets.push(followers_of(roads, open, step, mode))?;
+    }
+    Ok(sets)
+}
+
+/// Goes on along these segments from ends to which walks of a length lead.
+fn go_on(roads: &Roads, set: u64, length: usize, reached: &mut Vec<u64>) {
+    let mut number = 0usize;
+    for next in &roads.steps {
+        if has(set, number) {
             put(reached, length.saturating_add(next.cm), bit(number));
         }
         number = number.saturating_add(1);
     }
 }
 
-/// Goes on from all segments to whose ends walks of a length lead.
-fn go_on_from_all(roads: &Roads, open: u64, length: usize, mode: u16, reached: &mut Vec<u64>) {
-    let set = set_of(reached, length);
+/// The segments that may come next behind one of these.
+fn next_of(follow: &[u64], set: u64) -> u64 {
+    let mut found = 0u64;
     let mut number = 0usize;
-    for step in &roads.steps {
+    for next in follow {
         if has(set, number) {
-            go_on(roads, open, step, length, mode, reached);
+            found |= *next;
         }
         number = number.saturating_add(1);
     }
+    found
 }
 
-/// The same, again until nothing is new, since a segment may have no length.
-fn settle(roads: &Roads, open: u64, length: usize, mode: u16, reached: &mut Vec<u64>) {
+/// Goes on from all segments to whose ends walks of a length lead, until nothing is new, since a segment may have no length.
+fn settle(roads: &Roads, follow: &[u64], length: usize, reached: &mut Vec<u64>) {
     for _ in 0..64 {
         let before = set_of(reached, length);
-        go_on_from_all(roads, open, length, mode, reached);
+        go_on(roads, next_of(follow, before), length, reached);
         if set_of(reached, length) == before {
             break;
         }
@@ -107,12 +130,12 @@ pub(crate) fn road_ends(
     if roads.kept & bit_of_id(start) == 0 {
         return Ok(ends);
     }
-    let open = open_nodes(drawn, mode);
+    let follow = followers(alloc, roads, open_nodes(drawn, mode), mode)?;
     let mut reached = begin(alloc, roads, start, mode)?;
     put(&mut ends, 0, bit_of_id(start));
     for length in 0..=BOUND {
         if set_of(&reached, length) != 0 {
-            settle(roads, open, length, mode, &mut reached);
+            settle(roads, &follow, length, &mut reached);
             put(&mut ends, length, ends_of(roads, set_of(&reached, length)));
         }
     }
