@@ -16,17 +16,18 @@ use Rattle.section_grammar.specs.Reads.{AllGood}
 use Rattle.edge_info.specs.Entries.{InfosPass, names_of, starts_of, starts_at}
 use Rattle.edge_info.specs.Texts.{TextsPass}
 use Rattle.tile_bytes.specs.Header.{names_tile, are_modes}
-use Rattle.tile_bytes.specs.Items.{IsNodeRecord, IsEdgeRecord}
+use Rattle.tile_bytes.specs.declared.ids.LevelRule.TheVariants as rules
+use Rattle.tile_bytes.specs.Items.{IsNodeRecord, IsEdgeRecord, IsId, IsValid}
 use Rattle.tile_bytes.specs.Chains.{named_chains}
 use Rattle.tile_bytes.specs.Tiles.{has_entry, PassesChecks}
 use Rattle.work_tile.specs.declared.edge_rows.WorkEdge.{WorkEdge}
 use Rattle.work_tile.specs.WorkRows.{WorkNode, WorkRows}
 use Rattle.tile_infos.specs.TileTexts.{texts_of_pieces}
 use Rattle.tile_infos.specs.TileEntries.{entry_of_piece}
-use Rattle.tile_numbers.specs.LookUps.{work_rows_at}
+use Rattle.tile_numbers.specs.LookUps.{work_rows_at, other_nodes}
 use Rattle.tile_numbers.specs.Limits.{CanBeNumbered}
-use Rattle.tile_numbers.specs.Records.{numbered_nodes, numbered_edge, numbered_edges, edges_of_rows, node_records_of, edge_records_of}
-use Rattle.tile_number_laws.specs.NumberedChecks.{NumberedNodesPass, NumberedEdgesPass, NumberedCountsAgree}
+use Rattle.tile_numbers.specs.Records.{numbered_nodes, numbered_edge, numbered_edges, edges_of_rows, node_records_of, edge_records_of, transitions_of_rows}
+use Rattle.tile_number_laws.specs.NumberedChecks.{NumberedNodesPass, NumberedEdgesPass, TransitionsPass, NumberedCountsAgree}
 use Rattle.tile_finish.specs.FinishedTiles.{piece_places, pieces_of_rows, entries_of_rows, texts_of_rows, entry_offset, finished_tile, CanBeFinished}
 use Rattle.tile_finish.proofs.PlaceLemmas.{stands_inside}
 use Rattle.tile_finish.proofs.SizeLemmas.{starts_many, starts_have}
@@ -53,9 +54,11 @@ module _ (level tile : ℕ) (low : level ≤ 2) (small : tile < 4_194_304) where
 
 -- ---- the numbers of records
 
-nodes_many : (before : ℕ) (nodes : List WorkNode) → length (numbered_nodes before nodes) ≡ length nodes
-nodes_many before [] = refl
-nodes_many before (n ∷ ns) = let rest = nodes_many (before + length n.edges) ns in omega (arith, rest)
+nodes_many : (tiles : List WorkRows) (level edges transitions : ℕ) (nodes : List WorkNode) → length (numbered_nodes tiles level edges transitions nodes) ≡ length nodes
+nodes_many tiles level edges transitions [] = refl
+nodes_many tiles level edges transitions (n ∷ ns) =
+    let rest = nodes_many tiles level (edges + length n.edges) (transitions + length (other_nodes tiles level n)) ns in
+    omega (arith, rest)
 
 module _ (tiles : List WorkRows) (level tile : ℕ) where
   edges_many : (es : List WorkEdge) (offsets : List ℕ) → length offsets ≡ length es → length (numbered_edges tiles level tile es offsets) ≡ length es
@@ -99,30 +102,30 @@ offsets_start pieces rows same = λ k d inside.
 
 -- ---- the tile
 
-module _ (nodes_law : NumberedNodesPass) (edges_law : NumberedEdgesPass) (counts_law : NumberedCountsAgree) (modes : ℕ) (pieces : List Piece) (tiles : List WorkRows) (rows : WorkRows) where
+module _ (nodes_law : NumberedNodesPass) (edges_law : NumberedEdgesPass) (others_law : TransitionsPass) (counts_law : NumberedCountsAgree) (modes : ℕ) (pieces : List Piece) (tiles : List WorkRows) (rows : WorkRows) where
   abbrev offsets : List ℕ
   offsets = map (entry_offset pieces rows) (edges_of_rows rows)
 
   pub finished_passes : are_modes modes ≡ true → CanBeNumbered rows → CanBeFinished (length pieces) rows → length (pieces_of_rows pieces rows) ≡ length (piece_places rows)
       → InfosPass (length (texts_of_rows pieces rows)) (entries_of_rows pieces rows) → TextsPass (names_of (entries_of_rows pieces rows)) (texts_of_rows pieces rows)
-      → All NodeFits (node_records_of rows) → All EdgeFits (edge_records_of tiles rows offsets) → PassesChecks (finished_tile modes pieces tiles rows)
-  finished_passes are can finish same infos texts nodes_fit edges_fit =
+      → All NodeFits (node_records_of tiles rows) → All EdgeFits (edge_records_of tiles rows offsets) → All IsValid (transitions_of_rows tiles rows) → PassesChecks (finished_tile modes pieces tiles rows)
+  finished_passes are can finish same infos texts nodes_fit edges_fit ids_fit =
       let level = sym (id_level rows.level rows.tile can.level can.tile) in
       let tile = sym (id_tile rows.level rows.tile can.level can.tile) in
       let even : length offsets ≡ length (edges_of_rows rows) = length-map (edges_of_rows rows) (entry_offset pieces rows) in
-      let counts = counts_law tiles rows offsets even in
+      let counts = counts_law tiles rows offsets can.level even in
       record {
         id = names rows.level rows.tile can.level can.tile finish.there;
         modes = are;
-        few_nodes = omega (arith, nodes_many 0 rows.nodes, can.room.nodes);
+        few_nodes = omega (arith, nodes_many tiles rows.level 0 0 rows.nodes, can.room.nodes);
         few_edges = omega (arith, edges_many tiles rows.level rows.tile (edges_of_rows rows) offsets even, length-flat_map (λ (n : WorkNode). n.edges) rows.nodes, can.room.edges);
-        few_transitions = omega arith;
-        nodes = subst (λ l. AllGood (IsNodeRecord l (tile_of_id (value_of rows.level rows.tile 0))) [] (node_records_of rows)) level
-            (subst (λ t. AllGood (IsNodeRecord rows.level t) [] (node_records_of rows)) tile (nodes_law rows can.rise finish.nodes nodes_fit));
+        few_transitions = counts.few_transitions;
+        nodes = subst (λ l. AllGood (IsNodeRecord l (tile_of_id (value_of rows.level rows.tile 0))) [] (node_records_of tiles rows)) level
+            (subst (λ t. AllGood (IsNodeRecord rows.level t) [] (node_records_of tiles rows)) tile (nodes_law tiles rows can.level can.rise finish.nodes nodes_fit));
         edge_counts = counts.edges;
         transition_counts = counts.transitions;
         edges = subst (λ l. AllGood (IsEdgeRecord l) [] (edge_records_of tiles rows offsets)) level (edges_law tiles rows offsets can.level finish.classes edges_fit);
-        transitions = tt;
+        transitions = subst (λ l. AllGood (IsId (rules.Except l)) [] (transitions_of_rows tiles rows)) level (others_law tiles rows ids_fit);
         chains = tt;
         chain_places = no_chains tiles rows.level rows.tile (edges_of_rows rows) offsets;
         sequences = tt;

@@ -12,6 +12,7 @@ use Rattle.tile_bytes.specs.declared.tile.Tile.{Tile}
 use Rattle.tile_bytes.specs.declared.write.WriteFault.{WriteFault}
 use Rattle.tile_bytes.specs.declared.write.WriteFault.TheVariants as faults
 use Rattle.tile_bytes.specs.Header.{are_modes}
+use Rattle.tile_bytes.specs.Items.{IsValid}
 use Rattle.tile_bytes.specs.Tiles.{PassesChecks}
 use Rattle.tile_bytes.specs.Writing.{IsWriteFault}
 use Rattle.work_tile.specs.declared.edge_rows.WorkEdge.{WorkEdge}
@@ -22,7 +23,7 @@ use Rattle.tile_infos.specs.TileChecks.{HasEntry, KeysRise}
 use Rattle.tile_numbers.specs.LookUps.{no_rows}
 use Rattle.tile_numbers.specs.Limits.{CanBeNumbered}
 use Rattle.tile_numbers.specs.Records.{edges_of_rows}
-use Rattle.tile_number_laws.specs.NumberedChecks.{NumberedNodesPass, NumberedEdgesPass, NumberedCountsAgree}
+use Rattle.tile_number_laws.specs.NumberedChecks.{NumberedNodesPass, NumberedEdgesPass, TransitionsPass, NumberedCountsAgree}
 use Rattle.tile_finish.specs.FinishedTiles.{piece_places, pieces_of_rows, entries_of_rows, texts_of_rows, entry_offset, finished_tile, CanBeFinished}
 use Rattle.tile_finish.specs.Finishing.{assembled_tile, IsSectionFault}
 use Rattle.edge_info.specs.Entries.{infos_bytes}
@@ -61,16 +62,16 @@ module _ (modes : ℕ) (pieces : List Piece) (tiles : List WorkRows) (rows : Wor
   abbrev TextsLaw : Type 0
   TextsLaw = (ps : List Piece) → All HasEntry ps → TextsPass (names_of (entries_of_pieces ps)) (texts_of_pieces ps)
 
-  pub whole_passes : NumberedNodesPass → NumberedEdgesPass → NumberedCountsAgree → CountLaw → EntriesLaw → RiseLaw → InfosLaw → TextsLaw
+  pub whole_passes : NumberedNodesPass → NumberedEdgesPass → TransitionsPass → NumberedCountsAgree → CountLaw → EntriesLaw → RiseLaw → InfosLaw → TextsLaw
       → are_modes modes ≡ true → CanBeNumbered rows → CanBeFinished (length pieces) rows → All HasEntry pieces → KeysRise pieces
-      → (tile : Tile) → tile ≡ finished_tile modes pieces tiles rows → length tile.texts ≤ 2 ^ 32 → All NodeFits tile.nodes → All EdgeFits tile.edges → PassesChecks tile
-  whole_passes nodes_law edges_law counts_law count entries_law rise_law infos_law texts_law are can finish entries rise tile is few nodes edges =
+      → (tile : Tile) → tile ≡ finished_tile modes pieces tiles rows → length tile.texts ≤ 2 ^ 32 → All NodeFits tile.nodes → All EdgeFits tile.edges → All IsValid tile.transitions → PassesChecks tile
+  whole_passes nodes_law edges_law others_law counts_law count entries_law rise_law infos_law texts_law are can finish entries rise tile is few nodes edges ids =
       let places = piece_places rows in
       let inside : All (λ place. place < length pieces) places = places_inside (length pieces) rows places finish.places refl in
       let chosen = entries_law pieces places entries inside in
       let up = rise_law pieces places rise inside (rising_pairs (map (λ (e : WorkEdge). e.place) (edges_of_rows rows))) in
       let low : length (texts_of_rows pieces rows) ≤ 2 ^ 32 = omega (arith, few, ap (λ (t : Tile). length t.texts) is) in
       subst PassesChecks (sym is)
-      (finished_passes nodes_law edges_law counts_law modes pieces tiles rows are can finish (count pieces places inside)
+      (finished_passes nodes_law edges_law others_law counts_law modes pieces tiles rows are can finish (count pieces places inside)
       (infos_law (pieces_of_rows pieces rows) chosen up low) (texts_law (pieces_of_rows pieces rows) chosen)
-      (subst (λ (t : Tile). All NodeFits t.nodes) is nodes) (subst (λ (t : Tile). All EdgeFits t.edges) is edges))
+      (subst (λ (t : Tile). All NodeFits t.nodes) is nodes) (subst (λ (t : Tile). All EdgeFits t.edges) is edges) (subst (λ (t : Tile). All IsValid t.transitions) is ids))

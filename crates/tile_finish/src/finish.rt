@@ -13,7 +13,9 @@ use road_pieces::Pieces;
 use std::alloc::Global;
 use tile_bytes::{Tile, WriteFault, write_tile};
 use tile_infos::{pieces_at_places, tile_infos_pass};
-use tile_number_laws::{numbered_counts_agree, numbered_edges_pass, numbered_nodes_pass};
+use tile_number_laws::{
+    numbered_counts_agree, numbered_edges_pass, numbered_nodes_pass, transitions_pass,
+};
 use work_tile::{Places, WorkTile};
 
 /// The tile with index `i` among tiles that rise by level and number, before it is written.
@@ -37,6 +39,7 @@ fn whole_tile(
     tile_infos_pass();
     numbered_nodes_pass();
     numbered_edges_pass();
+    transitions_pass();
     numbered_counts_agree();
     match parts_of_tile(alloc, pieces, tiles[i].rows()) {
         Ok(parts) => Ok(tile_of_parts(alloc, tiles, places, i, modes, parts)?),

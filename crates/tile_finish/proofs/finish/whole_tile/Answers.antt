@@ -28,10 +28,10 @@ returns-in_ok-tile_of_parts-in-Ok-clause-passes c =
     (c.in-Ok.ensures.infos ∙ ap (entries_of_rows pieces) here)
     (c.in-Ok.ensures.texts ∙ ap (texts_of_rows pieces) here) in
     let few : length tile.texts ≤ 2 ^ 32 = omega (arith, c.in-Ok.ensures.few, ap (λ (t : Tile). length t.texts) made.tile) in
-    whole_passes modes pieces tiles rows c.numbered_nodes_pass.ensures c.numbered_edges_pass.ensures c.numbered_counts_agree.ensures
+    whole_passes modes pieces tiles rows c.numbered_nodes_pass.ensures c.numbered_edges_pass.ensures c.transitions_pass.ensures c.numbered_counts_agree.ensures
     c.pieces_at_places.ensures.count c.pieces_at_places.ensures.entries c.pieces_at_places.ensures.rise c.tile_infos_pass.ensures.infos c.tile_infos_pass.ensures.texts
     c.requires.modes (all.numbered.each c.args.i no_rows c.requires.inside) (all.each c.args.i no_rows c.requires.inside) all.entries all.rise
-    tile is few made.nodes made.edges
+    tile is few made.nodes made.edges made.transitions
 
 pub returns-in-Err-clause-fault : goal.returns-in-Err-clause-fault
 returns-in-Err-clause-fault c =

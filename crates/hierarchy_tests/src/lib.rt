@@ -1,0 +1,5 @@
+//! Tests of tiles on their levels.
+#![tactic(auto)]
+
+#[cfg(test)]
+mod lifted;
