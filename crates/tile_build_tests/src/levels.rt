@@ -13,8 +13,9 @@ const LEVEL_0: &str = "out/0/002/025.gph";
 /// The tile of level 1 there: in row 90 and column 180 of 360. Its value is 1 + 8 * 32580 = 0x3_fa21.
 const LEVEL_1: &str = "out/1/032/580.gph";
 
-/// Motorway ways 11 to 15 between nodes 1 to 6, all named `A1`, and residential way 20 from node 4 to node 7, for cars. Tile
-/// 2024 of level 0 has nodes 1 to 3 and the five edges that start there, of which the last, to node 4, leaves the tile.
+/// Motorway ways 11 to 15 between nodes 1 to 6, all named `A1`, and residential way 20 from node 4 to node 7, for
+/// cars. Tile 2024 of level 0 has nodes 1 to 3 and the five edges that start there, of which the last, to node 4,
+/// leaves the tile.
 const MOTORWAY_WEST: [u64; 58] = [
     0x3130_454c_4954_4a4d,
     0x3f40,
@@ -76,8 +77,8 @@ const MOTORWAY_WEST: [u64; 58] = [
     0x3141,
 ];
 
-/// Tile 2025 has nodes 4 to 6. At node 4 there is a transition, word 40, to node 0 of tile 519120 of level 2; way 13 is in the
-/// entries of both tiles.
+/// Tile 2025 has nodes 4 to 6. At node 4 there is a transition, word 40, to node 0 of tile 519120 of level 2; way 13
+/// is in the entries of both tiles.
 const MOTORWAY_EAST: [u64; 59] = [
     0x3130_454c_4954_4a4d,
     0x3f48,
@@ -140,8 +141,8 @@ const MOTORWAY_EAST: [u64; 59] = [
     0x3141,
 ];
 
-/// Tile 519120 of level 2 has nodes 4 and 7. The transition of node 4, word 24, leads to node 0 of tile 2025 of level 0. Two
-/// base edges of other levels start at node 4 before that of way 20, whose local index is 2.
+/// Tile 519120 of level 2 has nodes 4 and 7. The transition of node 4, word 24, leads to node 0 of tile 2025 of level
+/// 0. Two base edges of other levels start at node 4 before that of way 20, whose local index is 2.
 const EXIT: [u64; 30] = [
     0x3130_454c_4954_4a4d,
     0x3f_5e82,
@@ -208,8 +209,9 @@ fn a_motorway_and_a_street(rt: HostRuntime) -> Result<(), Fail> {
     Ok(())
 }
 
-/// Primary way 10 from node 1 to node 2, tertiary way 11 from there to 3, and service way 12 to 4. Node 2 has two transitions
-/// on each level, in order of level: here to node 0 of the tile of level 1, and to node 0 of that of level 2.
+/// Primary way 10 from node 1 to node 2, tertiary way 11 from there to 3, and service way 12 to 4. Node 2 has two
+/// transitions on each level, in order of level: here to node 0 of the tile of level 1, and to node 0 of that of level
+/// 2.
 const PRIMARY: [u64; 31] = [
     0x3130_454c_4954_4a4d,
     0x3f48,
@@ -244,8 +246,8 @@ const PRIMARY: [u64; 31] = [
     0x2710,
 ];
 
-/// On level 1 the transitions of node 2 lead to node 1 of the tile of level 0, and to node 0 of that of level 2. The local
-/// index of way 11 is 1.
+/// On level 1 the transitions of node 2 lead to node 1 of the tile of level 0, and to node 0 of that of level 2. The
+/// local index of way 11 is 1.
 const TERTIARY: [u64; 31] = [
     0x3130_454c_4954_4a4d,
     0x3_fa21,
@@ -280,8 +282,8 @@ const TERTIARY: [u64; 31] = [
     0x4e20,
 ];
 
-/// On level 2 the transitions of node 2 lead to node 1 of the tile of level 0, and to node 0 of that of level 1. The local
-/// index of way 12 is 2.
+/// On level 2 the transitions of node 2 lead to node 1 of the tile of level 0, and to node 0 of that of level 1. The
+/// local index of way 12 is 2.
 const SERVICE: [u64; 31] = [
     0x3130_454c_4954_4a4d,
     0x3f_5e82,
@@ -338,8 +340,8 @@ fn a_junction_on_three_levels(rt: HostRuntime) -> Result<(), Fail> {
     Ok(())
 }
 
-/// Trunk way 10 from node 1 to node 2, a gate that is closed to all modes, and residential way 11 from there to node 3. Node 2
-/// is closed on both levels, and has a transition on each.
+/// Trunk way 10 from node 1 to node 2, a gate that is closed to all modes, and residential way 11 from there to node
+/// 3. Node 2 is closed on both levels, and has a transition on each.
 const TO_THE_GATE: [u64; 30] = [
     0x3130_454c_4954_4a4d,
     0x3f48,
@@ -423,8 +425,8 @@ fn a_closed_gate_between_levels(rt: HostRuntime) -> Result<(), Fail> {
     Ok(())
 }
 
-/// Residential way 10 and secondary way 11, both from node 1 to node 2. On level 1 each node has one edge, of way 11: the place
-/// of its opposing edge is 0, and its local index is 1. The transition of node 2 is the second of the tile.
+/// Residential way 10 and secondary way 11, both from node 1 to node 2. On level 1 each node has one edge, of way 11:
+/// the place of its opposing edge is 0, and its local index is 1. The transition of node 2 is the second of the tile.
 const SECONDARY: [u64; 31] = [
     0x3130_454c_4954_4a4d,
     0x3_fa21,
@@ -628,8 +630,8 @@ fn a_main_road_over_two_tiles(rt: HostRuntime) -> Result<(), Fail> {
     Ok(())
 }
 
-/// Primary way 10 from node 1 at (0, 1,799,990,000) to node 2 at (0, 1,800,000,000), which lies in the last column too: tile
-/// 2069 of level 0, in row 22 and column 89.
+/// Primary way 10 from node 1 at (0, 1,799,990,000) to node 2 at (0, 1,800,000,000), which lies in the last column
+/// too: tile 2069 of level 0, in row 22 and column 89.
 const AT_THE_EDGE: [u64; 30] = [
     0x3130_454c_4954_4a4d,
     0x40a8,
@@ -663,8 +665,8 @@ const AT_THE_EDGE: [u64; 30] = [
     0x6b49_d200,
 ];
 
-/// Secondary way 11 leads on from node 2 to node 3 at (0, -1,799,990,000), 111.32 m away. Node 3 lies in the first column:
-/// tile 32400 of level 1.
+/// Secondary way 11 leads on from node 2 to node 3 at (0, -1,799,990,000), 111.32 m away. Node 3 lies in the first
+/// column: tile 32400 of level 1.
 const BEYOND_THE_EDGE: [u64; 21] = [
     0x3130_454c_4954_4a4d,
     0x3_f481,
@@ -777,8 +779,8 @@ fn word_at(file: &[u8], index: usize) -> u64 {
     word
 }
 
-// Word 18 of a tile with two nodes has the class of edge 0 in bits 32 to 34, and its modes forward and in reverse: a motorway
-// is a one-way road of motor vehicles (73), all others are open to all modes (79) in both directions.
+// Word 18 of a tile with two nodes has the class of edge 0 in bits 32 to 34, and its modes forward and in reverse: a
+// motorway is a one-way road of motor vehicles (73), all others are open to all modes (79) in both directions.
 #[test]
 fn a_level_for_each_class(rt: HostRuntime) -> Result<(), Fail> {
     let (status, host) = built(&rt, &eight_ways(rt.alloc())?, ALL)?;
