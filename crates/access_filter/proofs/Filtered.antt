@@ -34,3 +34,12 @@ kept_more f p xs i x inside here =
     ap (λ ys. filter p (map f ys)) (take_more xs i x inside ∙ ap (λ y. take i xs ++ y ∷ []) (sym here))
     ∙ ap (filter p) (map-append f (take i xs) (x ∷ []))
     ∙ filter-append p (map f (take i xs)) (map f (x ∷ []))
+
+-- where each element so far is found, and one more, none is left out
+pub all_more : {X : Type 0} (p : X → Bool) (xs : List X) (i : ℕ) (x : X) → i < length xs → x ≡ get_or xs i x → p x ≡ true
+    → filter p (take i xs) ≡ take i xs → filter p (take (i + 1) xs) ≡ take (i + 1) xs
+all_more p xs i x inside here is all =
+    filter_more p xs i x inside
+    ∙ ap (λ ys. ys ++ cond (p (get_or xs i x)) (get_or xs i x ∷ []) []) all
+    ∙ ap (λ b. take i xs ++ cond b (get_or xs i x ∷ []) []) (ap p (sym here) ∙ is)
+    ∙ sym (take_more xs i x inside)

@@ -1,9 +1,9 @@
 -- A node that is kept, and one that isn't; the same of a tile.
-use Rattle.std.proofs.Common.{◌≡◌, ℕ, zero, suc, ◌+◌, ◌<◌, ◌≤◌, true, false, List, [], ◌∷◌, ◌++◌, length, map, take, get_or, Result, Ok, Err, refl, sym, ap, ◌∙◌, cond, ltb, arith}
+use Rattle.std.proofs.Common.{◌≡◌, ℕ, zero, suc, ◌+◌, ◌<◌, ◌≤◌, true, false, List, [], ◌∷◌, ◌++◌, length, map, take, get_or, Result, Ok, Err, refl, sym, ap, subst, ◌∙◌, cond, ltb, arith}
 use Rattle.std.specs.Prelude.{OnOk}
 use Rattle.std.proofs.lemmas.Bool.{lt-ltb}
 use Rattle.std.specs.List.{filter}
-use Rattle.std.proofs.lemmas.List.{append-nil, take_all, map-append}
+use Rattle.std.proofs.lemmas.List.{append-nil, take_all, take_more, map-append}
 use Rattle.std.proofs.lemmas.List.Elements.{filter-append}
 use Rattle.road_pieces.specs.declared.rows.Junction.{Junction}
 use Rattle.work_tile.specs.declared.edge_rows.WorkEdge.{WorkEdge}
@@ -80,3 +80,32 @@ tiles_push modes tiles before after tile is step =
     ∙ ap (λ b. b ++ kept_tiles modes (tile ∷ [])) is
     ∙ sym (filter-append (λ t. ltb 0 (length t.nodes)) (map (kept_rows modes) tiles) (map (kept_rows modes) (tile ∷ [])))
     ∙ ap (filter (λ t. ltb 0 (length t.nodes))) (sym (map-append (kept_rows modes) tiles (tile ∷ [])))
+
+-- ---- where nothing is dropped
+
+pub node_whole : (modes i : ℕ) (node : WorkNode) → length node.edges ≤ i → filter (is_kept_edge modes) (take i node.edges) ≡ take i node.edges
+    → ltb 0 (length node.edges) ≡ true → kept_nodes modes (node ∷ []) ≡ node ∷ []
+unfolding kept_nodes
+node_whole modes i node over all some =
+    let whole : filter (is_kept_edge modes) node.edges ≡ node.edges = subst (λ es. filter (is_kept_edge modes) es ≡ es) (take_all i node.edges over) all in
+    ap (λ es. cond (ltb 0 (length es)) (edges_set node es ∷ []) []) whole ∙ ap (λ b. cond b (node ∷ []) []) some
+
+pub nodes_whole : (modes i : ℕ) (nodes : List WorkNode) (node : WorkNode) → i < length nodes → node ≡ get_or nodes i node → kept_nodes modes (node ∷ []) ≡ node ∷ []
+    → kept_nodes modes (take i nodes) ≡ take i nodes → kept_nodes modes (take (i + 1) nodes) ≡ take (i + 1) nodes
+unfolding kept_nodes
+nodes_whole modes i nodes node inside here one all =
+    kept_more (kept_node modes) (λ n. ltb 0 (length n.edges)) nodes i node inside here
+    ∙ ap (λ ns. ns ++ kept_nodes modes (node ∷ [])) all
+    ∙ ap (λ ns. take i nodes ++ ns) one
+    ∙ ap (λ n. take i nodes ++ n ∷ []) here
+    ∙ sym (take_more nodes i node inside)
+
+pub tile_whole : (modes i : ℕ) (tile : WorkRows) → length tile.nodes ≤ i → kept_nodes modes (take i tile.nodes) ≡ take i tile.nodes
+    → ltb 0 (length tile.nodes) ≡ true → kept_tiles modes (tile ∷ []) ≡ tile ∷ []
+tile_whole modes i tile over all some =
+    let whole : kept_nodes modes tile.nodes ≡ tile.nodes = subst (λ ns. kept_nodes modes ns ≡ ns) (take_all i tile.nodes over) all in
+    tile_kept modes tile tile (ap (λ ns. rows_of tile.level tile.tile ns) (sym whole)) some
+
+pub nodes_begin : (modes : ℕ) → kept_nodes modes [] ≡ []
+unfolding kept_nodes
+nodes_begin modes = refl

@@ -1,5 +1,5 @@
 //! The edges of a node that are kept.
-ghost use Rattle.std.specs.Prelude.{◌≡◌, ◌≤◌, ◌<◌, ◌++◌, ◌∷◌, [], List, length, nat_lt, OnOk};
+ghost use Rattle.std.specs.Prelude.{◌≡◌, ◌≤◌, ◌<◌, ◌++◌, ◌∷◌, [], List, length, nat_lt, OnOk, IsTrue};
 ghost use Rattle.std.specs.List.{filter};
 ghost use Rattle.work_tile.specs.WorkRows.{WorkNode};
 ghost use Rattle.access_filter.specs.Kept.{is_kept_edge, kept_nodes};
@@ -25,6 +25,19 @@ fn has_kept(node: &NodeView<'_>, modes: u16) -> bool
         }
     }
     false
+}
+
+/// Whether an edge starts at the node, and all of them are kept.
+pub(crate) fn is_kept_node(node: &NodeView<'_>, modes: u16) -> bool
+    ensures { IsTrue result → kept_nodes modes (node.now ∷ []) ≡ node.now ∷ [] }
+{
+    for k in 0..node.edges_len() {
+        let edge = node.edge(k);
+        if !is_kept(&edge, modes) {
+            return false;
+        }
+    }
+    node.edges_len() > 0
 }
 
 /// Puts an edge behind those of the last node, if it is kept.

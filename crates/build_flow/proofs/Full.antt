@@ -13,6 +13,7 @@ use Rattle.work_tile.specs.WorkRows.{WorkNode, WorkRows}
 use Rattle.tile_numbers.specs.declared.room.TheConstants.{MOST_RECORDS}
 use Rattle.tile_numbers.specs.declared.room.TileFull.{TileFull as FullTile}
 use Rattle.tile_numbers.specs.declared.room.What.TheVariants as kinds
+use Rattle.tile_numbers.specs.LookUps.{other_nodes}
 use Rattle.tile_numbers.specs.Limits.{edge_total, fullness, first_fullness}
 use Rattle.tile_numbers.specs.Records.{numbered_nodes, numbered_edges, edges_of_rows, node_records_of, edge_records_of}
 use Rattle.tile_finish.specs.FinishedTiles.{finished_tile, entry_offset}
@@ -37,9 +38,9 @@ tile_back level tile l t = omega (arith, l, t)
 
 -- ---- how many records there are
 
-nodes_many : (before : ℕ) (nodes : List WorkNode) → length (numbered_nodes before nodes) ≡ length nodes
-nodes_many before [] = refl
-nodes_many before (n ∷ ns) = ap suc (nodes_many (before + length n.edges) ns)
+nodes_many : (tiles : List WorkRows) (level edges transitions : ℕ) (nodes : List WorkNode) → length (numbered_nodes tiles level edges transitions nodes) ≡ length nodes
+nodes_many tiles level edges transitions [] = refl
+nodes_many tiles level edges transitions (n ∷ ns) = ap suc (nodes_many tiles level (edges + length n.edges) (transitions + length (other_nodes tiles level n)) ns)
 
 edges_many : (tiles : List WorkRows) (level tile : ℕ) (es : List WorkEdge) (offset : WorkEdge → ℕ) → length (numbered_edges tiles level tile es (map offset es)) ≡ length es
 unfolding numbered_edges
@@ -62,7 +63,7 @@ unfolding full_by
 one_full asked pieces tiles rows low =
     let level = level_back rows.level rows.tile low.level in
     let tile = tile_back rows.level rows.tile low.level low.tile in
-    let nodes = nodes_many 0 rows.nodes in
+    let nodes = nodes_many tiles rows.level 0 0 rows.nodes in
     let edges : length (edge_records_of tiles rows (map (entry_offset pieces rows) (edges_of_rows rows))) ≡ edge_total rows = edges_many tiles rows.level rows.tile (edges_of_rows rows) (entry_offset pieces rows) ∙ length-flat_map (λ (n : WorkNode). n.edges) rows.nodes in
     let same : too_full (finished_tile asked pieces tiles rows) ≡ full_by rows.level rows.tile (length rows.nodes) (edge_total rows) = λ i. full_by (level i) (tile i) (nodes i) (edges i) in
     same ∙ sym (mapped (nat_lt MOST_RECORDS (length rows.nodes)) (nat_lt MOST_RECORDS (edge_total rows)) _ _)

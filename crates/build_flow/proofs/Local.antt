@@ -17,8 +17,7 @@ use Rattle.osm_restrictions.specs.Rows.{row_in, row_of, rows_of_turns}
 use Rattle.osm_restrictions.specs.Turns.{turn_of}
 use Rattle.road_pieces.specs.Matches.{rule_of, turn_rules}
 use Rattle.road_pieces.specs.Rules.{class_of}
-use Rattle.kept_rows.specs.KeptRows.{IsLocal}
-use Rattle.build_flow.specs.Unbuilt.{is_main_road, first_main_road, first_restriction, way_or_relation, unbuilt}
+use Rattle.build_flow.specs.Unbuilt.{unbuilt}
 
 -- where none is found, each fails the test
 none_found : {E A : Type 0} (test : E → Bool) (id : E → A) (es : List E) → option_map id (find test es) ≡ None → All (λ e. test e ≡ false) es

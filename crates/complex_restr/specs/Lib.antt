@@ -1,3 +1,4 @@
 pub mod PatternRows
 pub mod Codes
 pub mod Locals
+pub mod KeptPieces

@@ -3,11 +3,13 @@
 #![tactic(auto)]
 
 mod edge_masks;
+mod kept_codes;
 mod local_codes;
 mod patterns;
 mod sequences;
 
 pub use edge_masks::masks;
+pub use kept_codes::kept_pieces;
 pub use local_codes::local_indexes;
 pub use patterns::{PatternView, TurnPatterns};
 pub use sequences::{flags, stored};

@@ -1,6 +1,7 @@
 //! Patterns of turn restrictions.
 
-ghost use Rattle.std.specs.Prelude.{◌≡◌, ◌<◌, ◌≤◌, ◌+◌, ◌^◌, ◌++◌, ◌∷◌, [], length, OnOk, OnErr, IsTrue, ◌↔◌, slice_range, slice_index_or};
+ghost use Rattle.std.specs.Prelude.{◌≡◌, ◌<◌, ◌≤◌, ◌+◌, ◌^◌, ◌++◌, ◌∷◌, [], length, OnOk, OnErr, IsTrue, ◌↔◌, slice_range, slice_index_or, All};
+ghost use Rattle.complex_restr.specs.Codes.{CodesBelow};
 
 use std::alloc::{AllocError, Global};
 use std::marker::Model;
@@ -90,6 +91,25 @@ impl TurnPatterns {
             modes: row.modes,
         }
     }
+
+    /// Whether each code of the patterns is below that number.
+    pub fn is_below(&self, count: usize) -> bool
+        ensures { IsTrue result ↔ CodesBelow count self.now }
+    {
+        for i in 0..self.len() {
+            if !are_below(self.at(i).codes(), count) {
+                return false;
+            }
+        }
+        true
+    }
+}
+
+/// Whether each of these codes is below that number.
+fn are_below(codes: &[u32], count: usize) -> bool
+    ensures { IsTrue result ↔ All (λ c. c < count) codes.now }
+{
+    codes.iter().all(|code| (*code as usize) < count)
 }
 
 /// A pattern, to be read. Contracts see it as the pair of its codes and its modes.

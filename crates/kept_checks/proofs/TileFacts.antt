@@ -201,8 +201,8 @@ module _ (x : Extract) (asked : ℕ) (told : AreToldSo x) (plain : IsPlainTable 
     low = tile_low rows there;
     rise = subst (λ (r : TileRows). IdsRise (λ (n : WorkNode). n.osm) (rows_of_table x r).nodes) (rows_are x asked rows there) (nodes_rise rows.level rows.tile);
     nodes = λ n h.
-    let (r, (among, same)) = of_map (node_with rows.level) rows.nodes n h in
-    subst (IsLiftedNode count rows.level rows.tile) same (node_so rows r there among);
+        let (r, (among, same)) = of_map (node_with rows.level) rows.nodes n h in
+        subst (IsLiftedNode count rows.level rows.tile) same (node_so rows r there among);
   }
 
   -- ---- all tiles
@@ -211,9 +211,9 @@ module _ (x : Extract) (asked : ℕ) (told : AreToldSo x) (plain : IsPlainTable 
   level_in_order k [] h = tt
   level_in_order k (c ∷ cs) h = (
     λ u there.
-    let (d, (on, same)) = of_map (tile_of_level x asked k) cs u there in
-    let below = ltb-true c d (h.0 d on) in
-    subst (λ (t : TileRows). number (tile_of_level x asked k c) < number t) same (omega (arith, below)),
+        let (d, (on, same)) = of_map (tile_of_level x asked k) cs u there in
+        let below = ltb-true c d (h.0 d on) in
+        subst (λ (t : TileRows). number (tile_of_level x asked k c) < number t) same (omega (arith, below)),
     level_in_order k cs h.1,
   )
 

@@ -1,19 +1,21 @@
 -- Of which piece each code is.
-use Rattle.std.proofs.Common.{◌≡◌, ℕ, zero, suc, ◌+◌, ◌*◌, ◌/◌, ◌%◌, ◌<◌, refl, sym, ◌∙◌, ap, subst, List, [], ◌∷◌, length, get_or, filter, true, not, inl, inr, arith}
+use Rattle.std.proofs.Common.{◌≡◌, ℕ, zero, suc, ◌+◌, ◌*◌, ◌/◌, ◌%◌, ◌<◌, refl, sym, ◌∙◌, ap, subst, List, [], ◌∷◌, length, get_or, filter, true, not, inl, inr, arith, map, false}
 use Rattle.std.specs.List.{enumerate_from}
 use Rattle.std.proofs.lemmas.Bool.{cond-true, cond-false, cases_eq, eq-eqb, ne_eqb}
-use Rattle.std.proofs.lemmas.List.{length-map}
+use Rattle.std.proofs.lemmas.List.{length-map, get_or-map}
 use Rattle.osm_model.specs.declared.extract.Extract.{Extract}
 use Rattle.road_pieces.specs.DirectedPiece.{DirectedPiece}
 use Rattle.road_pieces.specs.Rows.{piece_rows}
 use Rattle.road_pieces.proofs.Members.{IsIn, in_at, in_numbered}
-use Rattle.road_walks.specs.BaseEdges.{directed_pieces, reverse_of}
+use Rattle.road_walks.specs.BaseEdges.{directed_pieces, reverse_of, tile_numbers}
 use Rattle.edge_builder.specs.ExtractRows.{forward_pieces, piece_of_extract, piece_place}
 use Rattle.edge_builder.proofs.ForwardRows.{told_forward}
 use Rattle.edge_builder.proofs.PiecePlaces.{runs_forward, place_forward, place_backward}
+use Rattle.folder_spec.specs.Rows.{keeps_piece}
 use Rattle.complex_restr.specs.Codes.{coded_piece}
+use Rattle.complex_restr.specs.KeptPieces.{is_kept_piece}
 use Rattle.restr_laws.specs.AtCodes.{piece_at, no_piece}
-use Rattle.restr_laws.specs.CodePlaces.{IsCoded, PiecesAtCodes}
+use Rattle.restr_laws.specs.CodePlaces.{IsCoded, PiecesAtCodes, KeptAtCodes, ArePieceCodes}
 use Rattle.restr_laws.proofs.Pairs.{ArePaired, paired, reverse_behind}
 
 abbrev forward_in : List DirectedPiece → List DirectedPiece
@@ -73,4 +75,24 @@ places_law x =
     record {
       all = half ∙ ap (λ n. 2 * n) (sym rows);
       each = λ c h. one_coded x c (c / 2) (omega (arith, h, half)) (omega (arith, h)) refl;
+    }
+
+-- a piece of the roads has the accesses of its way
+kept_told : (x : Extract) (asked k : ℕ) → k < length (forward_pieces x) → 2 * k < length (directed_pieces x) → get_or (map (is_kept_piece asked) (piece_rows x)) k false ≡ keeps_piece x asked tile_numbers [] (λ l n. 0) (piece_at x (2 * k))
+kept_told x asked k inside low =
+    let f : DirectedPiece = get_or (forward_pieces x) k no_piece in
+    ap (λ rows. get_or (map (is_kept_piece asked) rows) k false) (told_forward x)
+    ∙ (get_or-map (is_kept_piece asked) (map (piece_of_extract x) (forward_pieces x)) k (piece_of_extract x f) false (omega (arith, inside, length-map (forward_pieces x) (piece_of_extract x)))
+    ∙ (ap (is_kept_piece asked) (get_or-map (piece_of_extract x) (forward_pieces x) k no_piece (piece_of_extract x f) inside)
+    ∙ ap (keeps_piece x asked tile_numbers [] (λ l n. 0)) (sym (half_place (directed_pieces x) k no_piece (paired x) low))))
+
+pub kept_law : KeptAtCodes
+kept_law x asked =
+    let codes : ArePieceCodes x = places_law x in
+    let half : length (directed_pieces x) ≡ 2 * length (forward_pieces x) = halves (directed_pieces x) (paired x) in
+    let flags : length (map (is_kept_piece asked) (piece_rows x)) ≡ length (piece_rows x) = length-map (piece_rows x) (is_kept_piece asked) in
+    record {
+      all = codes.all ∙ ap (λ n. 2 * n) (sym flags);
+      each = λ k h. let inside : k < length (forward_pieces x) = omega (arith, h, flags, codes.all, half) in
+          kept_told x asked k inside (omega (arith, inside, half));
     }

@@ -1,13 +1,14 @@
 -- The codes of an extract's directed pieces: of which piece each is, and its local index from where all of them start.
-use Rattle.std.specs.Prelude.{◌≡◌, ◌<◌, ◌*◌, ◌%◌, ℕ, List, length, nat_eq, None}
+use Rattle.std.specs.Prelude.{◌≡◌, ◌<◌, ◌*◌, ◌%◌, ℕ, List, length, map, nat_eq, None}
 use Rattle.osm_model.specs.declared.extract.Extract.{Extract}
 use Rattle.road_pieces.specs.Rows.{junction_rows, piece_rows}
 use Rattle.road_walks.specs.BaseEdges.{directed_pieces}
 use Rattle.edge_builder.specs.BaseRows.{start_places, crowded}
 use Rattle.edge_builder.specs.ExtractRows.{piece_place}
 use Rattle.complex_restr.specs.Codes.{coded_piece}
+use Rattle.complex_restr.specs.KeptPieces.{is_kept_piece}
 use Rattle.complex_restr.specs.Locals.{AreCodeLocals, AreFewStarts}
-use Rattle.restr_laws.specs.AtCodes.{piece_at, AreLocals}
+use Rattle.restr_laws.specs.AtCodes.{piece_at, AreLocals, AreKeptFlags}
 
 -- where the codes of the extract start: the places of junctions
 abbrev pub code_starts : Extract → List ℕ
@@ -31,3 +32,7 @@ StartsAtCodes = (x : Extract) → crowded (junction_rows x) (piece_rows x) ≡ N
 
 abbrev pub LocalsAtCodes : Type 0
 LocalsAtCodes = (x : Extract) (locals : List ℕ) → AreCodeLocals (code_starts x) locals → AreLocals x locals
+
+-- the pieces that an asked mode may use in some direction are those that the folder keeps
+abbrev pub KeptAtCodes : Type 0
+KeptAtCodes = (x : Extract) (asked : ℕ) → AreKeptFlags x asked (map (is_kept_piece asked) (piece_rows x))

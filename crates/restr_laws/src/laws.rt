@@ -1,7 +1,7 @@
 //! Laws of patterns by codes, which hold by the definitions alone.
 
 ghost use Rattle.restr_laws.specs.AtCodes.{FlagsAtCodes, MasksAtCodes, StoredAtCodes};
-ghost use Rattle.restr_laws.specs.CodePlaces.{LocalsAtCodes, PiecesAtCodes, StartsAtCodes};
+ghost use Rattle.restr_laws.specs.CodePlaces.{KeptAtCodes, LocalsAtCodes, PiecesAtCodes, StartsAtCodes};
 
 /// The mask of an edge in the folder is that of its code.
 pub fn masks_at_codes()
@@ -31,4 +31,9 @@ pub fn starts_at_codes()
 /// The local indexes that follow from where the codes start are those of the directed pieces.
 pub fn locals_at_codes()
     ensures { LocalsAtCodes }
+{}
+
+/// The pieces that an asked mode may use in some direction are those that the folder keeps.
+pub fn kept_at_codes()
+    ensures { KeptAtCodes }
 {}

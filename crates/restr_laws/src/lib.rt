@@ -4,6 +4,6 @@
 mod laws;
 
 pub use laws::{
-    flags_at_codes, locals_at_codes, masks_at_codes, pieces_at_codes, starts_at_codes,
-    stored_at_codes,
+    flags_at_codes, kept_at_codes, locals_at_codes, masks_at_codes, pieces_at_codes,
+    starts_at_codes, stored_at_codes,
 };

@@ -18,7 +18,7 @@ module _ (places starts : List ℕ) (are : AreStarts places starts) where
   ]
 
   -- found at this index
-  at_found : (place i : ℕ) → i < length places → get_or places i 0 ≡ place → get_or starts i 0 ≡ start_at_place places starts place
+  pub at_found : (place i : ℕ) → i < length places → get_or places i 0 ≡ place → get_or starts i 0 ≡ start_at_place places starts place
   at_found place i inside here =
       let at : position_or_len (nat_eq place) places ≡ i =
       position_or_len_is (nat_eq place) places i 0 (omega (arith, inside))

@@ -8,6 +8,7 @@ use Rattle.std.proofs.lemmas.List.Sums.{position_or_len_is}
 use Rattle.work_tile.specs.WorkRows.{WorkRows}
 use Rattle.work_tile.specs.Places.{tile_number, place_numbers}
 use Rattle.tile_numbers.specs.LookUps.{no_rows, has_tile_number, work_rows_at}
+use Rattle.tile_numbers.specs.Progress.{IsFoundTile}
 use Rattle.tile_numbers.specs.Limits.{TilesCanBeNumbered}
 
 abbrev number : WorkRows → ℕ
@@ -56,3 +57,19 @@ no_tile tiles numbers level tile same none =
     none k (omega (arith, l, ap length same, length-map tiles number)) (ap (λ ns. slice_index ns k) same ∙ number_at tiles k no_rows l ∙ sym e)))
     (λ l. absurd (omega (arith, l))) in
     get_or_past tiles (position_or_len (has_tile_number level tile) tiles) no_rows (omega (arith, past))
+
+-- a tile at this index that has the level and the number
+pub tile_at : (tiles : List WorkRows) (level tile i : ℕ) (t : WorkRows) → TilesCanBeNumbered tiles → i < length tiles → t ≡ get_or tiles i t → t.level ≡ level → t.tile ≡ tile → IsFoundTile tiles level tile i
+tile_at tiles level tile i t can inside here l m =
+    let small = (can.each i t inside).tile in
+    let low : tile < 2 ^ 32 = omega (arith, small, ap (λ (r : WorkRows). r.tile) here, m) in
+    let many : i < length (place_numbers tiles) = omega (arith, inside, length-map tiles number) in
+    let at : slice_index (place_numbers tiles) i ≡ tile_number level tile = number_at tiles i t inside ∙ ap number (sym here) ∙ (λ j. tile_number (l j) (m j)) in
+    let found = tile_found tiles (place_numbers tiles) level tile i t can (λ j. place_numbers tiles) low many at here in
+    record { inside = inside; is = get_or_default tiles i no_rows t inside ∙ sym here ∙ found }
+
+-- .. or whose number is found
+pub numbered_at : (tiles : List WorkRows) (numbers : List ℕ) (level tile i : ℕ) → TilesCanBeNumbered tiles → numbers ≡ place_numbers tiles → tile < 2 ^ 32 → i < length numbers → slice_index numbers i ≡ tile_number level tile → IsFoundTile tiles level tile i
+numbered_at tiles numbers level tile i can same low inside is =
+    let within : i < length tiles = omega (arith, inside, ap length same, length-map tiles number) in
+    record { inside = within; is = tile_found tiles numbers level tile i (get_or tiles i no_rows) can same low inside is (get_or_default tiles i no_rows (get_or tiles i no_rows) within) }

@@ -7,8 +7,8 @@ ghost use Rattle.tile_numbers.specs.Records.{numbered_node, numbered_edge, numbe
 ghost use Rattle.tile_numbers.specs.Progress.{AreSoFar};
 ghost use Rattle.tile_numbers.specs.Limits.{IsRecordedEdge, IsRecordedNode, CanBeNumbered, TilesCanBeNumbered};
 
-use crate::ends::end_of;
-use crate::transitions::push_transitions;
+use crate::ends::{Hint, end_of};
+use crate::transitions::{Hints, push_transitions};
 use graph_id::GraphId;
 use std::alloc::{AllocError, Global};
 use tile_records::{EdgeRec, NodeRec};
@@ -54,6 +54,7 @@ fn edge_record(
     tile: u32,
     edge: &WorkEdge,
     info: u32,
+    hint: Hint,
 ) -> EdgeRec
     requires tiles { TilesCanBeNumbered tiles.now }
     requires places { places.now ≡ place_numbers tiles.now }
@@ -61,7 +62,7 @@ fn edge_record(
     requires edge { IsRecordedEdge edge.now }
     ensures { result ≡ numbered_edge level tile (work_rows_at tiles.now level edge.now.end_tile) edge.now info }
 {
-    let end = end_of(tiles, places, level, edge);
+    let end = end_of(tiles, places, level, edge, hint);
     let (mask, forward_access, reverse_access) = (
         edge.mask,
         edge.forward_access,
@@ -98,6 +99,7 @@ fn push_edges(
     tile: u32,
     node: &NodeView<'_>,
     offsets: &[u32],
+    hint: Hint,
 ) -> Result<(), AllocError>
     requires tiles { TilesCanBeNumbered tiles.now }
     requires places { places.now ≡ place_numbers tiles.now }
@@ -107,7 +109,7 @@ fn push_edges(
     ensures { OnOk result (edges.new.items ≡ edges.old.items ++ numbered_edges tiles.now level tile node.now.edges offsets.now) }
 {
     for k in 0..node.edges_len() {
-        edges.push(edge_record(tiles, places, level, tile, &node.edge(k), offsets[k]))?;
+        edges.push(edge_record(tiles, places, level, tile, &node.edge(k), offsets[k], hint))?;
     }
     Ok(())
 }
@@ -129,7 +131,9 @@ fn push_records(
     places: &Places,
     rows: &TileRows,
     offsets: &[u32],
+    i: usize,
     k: usize,
+    hints: &mut Hints,
 ) -> Result<(), AllocError>
     requires inside { k < length rows.now.nodes }
     requires tiles { TilesCanBeNumbered tiles.now }
@@ -142,7 +146,14 @@ fn push_records(
     let node = rows.node(k);
     let (from, shifts) = (tile.edges.len(), tile.transitions.len());
     let to = from + node.edges_len();
-    push_transitions(&mut tile.transitions, tiles, places, rows.level(), &node)?;
+    push_transitions(
+        &mut tile.transitions,
+        tiles,
+        places,
+        rows.level(),
+        &node,
+        hints,
+    )?;
     let others = tile.transitions.len() - shifts;
     tile.nodes.push(node_record(from as u32, shifts as u32, others as u8, &node))?;
     push_edges(
@@ -153,6 +164,7 @@ fn push_records(
         rows.tile(),
         &node,
         part_of(offsets, from, to),
+        Hint { tile: i, node: k },
     )
 }
 
@@ -163,6 +175,7 @@ fn numbered(
     places: &Places,
     rows: &TileRows,
     offsets: &[u32],
+    i: usize,
 ) -> Result<NumberedTile, AllocError>
     requires tiles { TilesCanBeNumbered tiles.now }
     requires places { places.now ≡ place_numbers tiles.now }
@@ -177,8 +190,14 @@ fn numbered(
         edges: Vec::with_capacity(alloc, offsets.len())?,
         transitions: Vec::new(alloc),
     };
+    let nowhere = Hint { tile: 0, node: 0 };
+    let mut hints = Hints {
+        first: nowhere,
+        second: nowhere,
+        third: nowhere,
+    };
     for k in 0..rows.nodes_len() {
-        push_records(&mut tile, tiles, places, rows, offsets, k)?;
+        push_records(&mut tile, tiles, places, rows, offsets, i, k, &mut hints)?;
     }
     Ok(tile)
 }
@@ -201,5 +220,5 @@ pub fn number_tile(
     ensures edges { IfOk result (λ t. t.edges.items ≡ edge_records_of tiles.now (slice_index_or tiles.now i no_rows) offsets.now) }
     ensures transitions { IfOk result (λ t. t.transitions.items ≡ transitions_of_rows tiles.now (slice_index_or tiles.now i no_rows)) }
 {
-    numbered(alloc, tiles, places, tiles[i].rows(), offsets)
+    numbered(alloc, tiles, places, tiles[i].rows(), offsets, i)
 }

@@ -1,9 +1,9 @@
-//! Three tiles, as `specs/Worked.antt` lays them out.
+//! Four tiles, as `specs/Worked.antt` lays them out.
 ghost use Rattle.std.specs.Prelude.{◌≡◌, ◌<◌, ◌++◌, ◌∷◌, [], pos, length, slice_index_or, IfOk, OnOk};
 ghost use Rattle.work_tile.specs.WorkRows.{work_node_with};
 ghost use Rattle.tile_numbers.specs.LookUps.{no_rows};
 ghost use Rattle.tile_numbers.specs.Records.{edges_of_rows};
-ghost use Rattle.tile_numbers_tests.specs.Worked.{worked_edge, worked_junction, first_rows, second_rows, third_rows, worked_tiles};
+ghost use Rattle.tile_numbers_tests.specs.Worked.{worked_edge, worked_junction, upper_rows, first_rows, second_rows, third_rows, worked_tiles};
 
 use fixed_geo::Point;
 use road_pieces::{DirKey, Junction, PieceKey};
@@ -60,7 +60,17 @@ fn put(rows: &mut TileRows, junction: Junction, edge: WorkEdge) -> Result<(), Al
     rows.push_edge(edge)
 }
 
-/// The first tile.
+/// The tile of level 0.
+fn upper_tile(alloc: Global) -> Result<WorkTile, AllocError>
+    ensures { IfOk result (λ tile. tile ≡ upper_rows) }
+{
+    let mut rows = TileRows::new(alloc, 0, 2025);
+    put(&mut rows, junction(2, 10_000), edge(40, true, 9, 2025, 1))?;
+    put(&mut rows, junction(9, 60_000), edge(40, false, 2, 2025, 0))?;
+    WorkTile::new(alloc, rows)
+}
+
+/// The first tile of level 2.
 fn first_tile(alloc: Global) -> Result<WorkTile, AllocError>
     ensures { IfOk result (λ tile. tile ≡ first_rows) }
 {
@@ -74,7 +84,7 @@ fn first_tile(alloc: Global) -> Result<WorkTile, AllocError>
     WorkTile::new(alloc, rows)
 }
 
-/// The second tile.
+/// The second tile of level 2.
 fn second_tile(alloc: Global) -> Result<WorkTile, AllocError>
     ensures { IfOk result (λ tile. tile ≡ second_rows) }
 {
@@ -87,7 +97,7 @@ fn second_tile(alloc: Global) -> Result<WorkTile, AllocError>
     WorkTile::new(alloc, rows)
 }
 
-/// The third tile.
+/// The third tile of level 2.
 fn third_tile(alloc: Global) -> Result<WorkTile, AllocError>
     ensures { IfOk result (λ tile. tile ≡ third_rows) }
 {
@@ -106,14 +116,16 @@ fn third_tile(alloc: Global) -> Result<WorkTile, AllocError>
     WorkTile::new(alloc, rows)
 }
 
-/// The three tiles.
+/// The four tiles.
 fn tiles(alloc: Global) -> Result<Vec<WorkTile>, AllocError>
     ensures { IfOk result (λ tiles. tiles.items ≡ worked_tiles) }
 {
+    let upper = upper_tile(alloc)?;
     let first = first_tile(alloc)?;
     let second = second_tile(alloc)?;
     let third = third_tile(alloc)?;
     let mut tiles = Vec::new(alloc);
+    tiles.push(upper)?;
     tiles.push(first)?;
     tiles.push(second)?;
     tiles.push(third)?;

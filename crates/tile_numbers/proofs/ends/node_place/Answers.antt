@@ -18,4 +18,4 @@ returns-in-Equal-clause-is c =
     found_at c.args.rows.now c.args.osm.now _ no_work_node c.requires (omega (arith, c.loop-low.invariant.inside)) (int_ranked _ _ Equal (c.in-Equal.ensures no_work_node))
 
 pub returns-clause-is : goal.returns-clause-is
-returns-clause-is c = none_between c.args.rows.now c.args.osm.now _ _ c.nodes_len.result (λ h. absurd (omega (arith, h))) c.loop-low.invariant c.nodes_len.ensures
+returns-clause-is c = none_between c.args.rows.now c.args.osm.now _ _ c.nodes_len-2.result (λ h. absurd (omega (arith, h))) c.loop-low.invariant c.nodes_len-2.ensures

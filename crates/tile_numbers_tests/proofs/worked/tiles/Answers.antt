@@ -9,6 +9,7 @@ behind t ts = ts ++ t ∷ []
 pub returns : goal.returns
 unfolding worked_tiles
 returns c =
-    c.in_ok-push-3.ensures.items
-    ∙ ap (behind c.in_ok-third.third) (c.in_ok-push-2.ensures.items ∙ ap (behind c.in_ok-second.second) (c.in_ok-push.ensures.items ∙ ap (behind c.in_ok-first.first) c.new-tiles.ensures.items))
-    ∙ (λ j. c.in_ok-first.ensures j ∷ c.in_ok-second.ensures j ∷ c.in_ok-third.ensures j ∷ [])
+    c.in_ok-push-4.ensures.items
+    ∙ ap (behind c.in_ok-third.third)
+    (c.in_ok-push-3.ensures.items ∙ ap (behind c.in_ok-second.second) (c.in_ok-push-2.ensures.items ∙ ap (behind c.in_ok-first.first) (c.in_ok-push.ensures.items ∙ ap (behind c.in_ok-upper.upper) c.new-tiles.ensures.items)))
+    ∙ (λ j. c.in_ok-upper.ensures j ∷ c.in_ok-first.ensures j ∷ c.in_ok-second.ensures j ∷ c.in_ok-third.ensures j ∷ [])

@@ -2,7 +2,7 @@ use Rattle.std.proofs.Common.{◌≡◌, ◌++◌, ◌∷◌, [], length, sym, a
 use Rattle.std.proofs.lemmas.List.{append-nil}
 use Rattle.access_filter.specs.Kept.{kept_rows}
 use Rattle.access_filter.proofs.NodesKept.{tile_kept, tile_left, some_nodes}
-use Rattle.access_filter.proofs.keeping.keep_tile.Goals as goal
+use Rattle.access_filter.proofs.keeping.keep_part.Goals as goal
 
 pub returns-then-nodes_len-eq0 : goal.returns-then-nodes_len-eq0
 returns-then-nodes_len-eq0 c =

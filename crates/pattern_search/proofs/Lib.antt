@@ -1,0 +1,12 @@
+pub mod Inclusion
+pub mod WordLaw
+pub mod MemberLaw
+pub mod MostLaw
+pub mod ViaLaw
+pub mod Counting
+pub mod ViaTables
+pub mod Adding
+pub mod RenameLaw
+pub mod StepLaw
+pub mod NumberLaw
+pub mod DecideLaw

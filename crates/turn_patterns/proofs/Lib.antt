@@ -1,0 +1,9 @@
+pub mod RowWordLaw
+pub mod RowAnswerLaw
+pub mod FoundLaw
+pub mod CountLaw
+pub mod WaysFoundLaw
+pub mod UnlessLaw
+pub mod NodeFoundLaw
+pub mod RowTestLaw
+pub mod RiseLaw
