@@ -8,6 +8,8 @@ mod barriers;
 #[cfg(test)]
 mod full;
 #[cfg(test)]
+mod levels;
+#[cfg(test)]
 mod names;
 #[cfg(test)]
 mod neighbours;
