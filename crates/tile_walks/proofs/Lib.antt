@@ -1,0 +1,4 @@
+pub mod FoundKeys
+pub mod IdLaws
+pub mod Lookup
+pub mod Doubles

@@ -1,0 +1,10 @@
+//! Records of tiles by their GraphIds, and walks over tiles.
+#![tactic(auto)]
+
+mod graph;
+mod items;
+mod keys;
+mod order;
+
+pub use graph::{GraphFault, TileGraph};
+pub use items::WalkItem;
