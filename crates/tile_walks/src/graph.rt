@@ -1,5 +1,5 @@
 //! Tiles, whose records are found by their GraphIds.
-ghost use Rattle.std.specs.Prelude.{◌≡◌, ◌≤◌, ℕ, All, IfSome, Some, IfOk, IfErr, IsPermutation};
+ghost use Rattle.std.specs.Prelude.{◌≡◌, ◌≢◌, ◌≤◌, ◌↔◌, ℕ, length, All, IsTrue, IfSome, Some, IfOk, IfErr, IsPermutation};
 ghost use Rattle.std.specs.Option.{option_copied};
 ghost use Rattle.std.specs.List.Sorted.{IsSortedByKey};
 ghost use Rattle.std.specs.Ordering.{nat_cmp};
@@ -7,7 +7,9 @@ ghost use Rattle.tile_records.specs.Nodes.{NodeFields};
 ghost use Rattle.tile_records.specs.Edges.{EdgeFields};
 ghost use Rattle.tile_bytes.specs.Tiles.{PassesChecks};
 ghost use Rattle.tile_walks.specs.Keys.{IsGraphFault, Rise, key_of, keys_of, tiles_with};
+ghost use Rattle.std.specs.List.{Any};
 ghost use Rattle.tile_walks.specs.Records.{IsNodeOf, IsEdgeOf};
+ghost use Rattle.tile_walks.specs.Steps.{IsTransitionOf, transition_in};
 
 use crate::keys::{key, place_of};
 use crate::order::{keys, least_double};
@@ -57,6 +59,17 @@ fn in_order(tiles: Vec<Tile>) -> Vec<Tile>
     tiles
 }
 
+/// Where the transition at a place of a node of a tile leads.
+fn transition_in(tile: &Tile, place: u8, node: &NodeRec) -> Option<GraphId>
+    ensures { result ≡ transition_in tile.now place node.now }
+{
+    let (from, count) = (node.transition_index, node.transition_count);
+    if place >= count {
+        return None;
+    }
+    tile.transitions.get(from as usize + usize::from(place)).copied()
+}
+
 impl TileGraph {
     /// The graph of tiles that pass the checks of a tile file, in any order: it has them in order of level and number.
     /// Linear in the tiles, but for a sort of them. `DuplicateTile` has the least id that two of the tiles have.
@@ -93,5 +106,23 @@ impl TileGraph {
     {
         let at = place_of(self.keys.as_slice(), key(id))?;
         self.tiles[at].edges.get(id.id() as usize)
+    }
+
+    /// The node to which the transition at a place of a node leads, and `None` where there is none.
+    pub(crate) fn transition(&self, from: GraphId, place: u8) -> Option<GraphId>
+        ensures found { IfSome result (λ to. IsTransitionOf self.now from place to) }
+        ensures only { (to : ℕ) → IsTransitionOf self.now from place to → result ≡ Some to }
+    {
+        let at = place_of(self.keys.as_slice(), key(from))?;
+        let tile = &self.tiles[at];
+        let node = tile.nodes.get(from.id() as usize)?;
+        transition_in(tile, place, node)
+    }
+
+    /// Whether there is a node.
+    pub(crate) fn has_nodes(&self) -> bool
+        ensures { IsTrue result ↔ Any (λ t. length t.nodes ≢ 0) self.now }
+    {
+        self.tiles.iter().any(|tile| tile.nodes.len() != 0)
     }
 }

@@ -1,5 +1,6 @@
 //! The items of walks.
 use graph_id::GraphId;
+use tile_records::EdgeRec;
 
 /// An item of a walk over tiles.
 #[derive(Clone, Copy, Debug, PartialEq, Eq)]
@@ -8,4 +9,11 @@ pub enum WalkItem {
     Edge(GraphId),
     /// The transition at a place, from 0 on, of the node with this GraphId.
     Transition { from: GraphId, place: u8 },
+}
+
+/// Where a walk stands: the node, and the last edge that it took; before the first item there is no node.
+#[derive(Clone, Copy, Debug)]
+pub(crate) struct Stand {
+    pub at: Option<GraphId>,
+    pub last: Option<EdgeRec>,
 }

@@ -5,6 +5,7 @@ mod graph;
 mod items;
 mod keys;
 mod order;
+mod steps;
 
 pub use graph::{GraphFault, TileGraph};
 pub use items::WalkItem;
