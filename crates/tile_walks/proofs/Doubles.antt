@@ -1,22 +1,22 @@
 -- Numbers that stand side by side, and tiles in order of their keys.
-use Rattle.std.proofs.Common.{◌≡◌, ℕ, zero, suc, ◌+◌, ◌<◌, ◌≤◌, ◌^◌, List, [], ◌∷◌, length, map, get_or, Option, Some, None, Bool, true, false, refl, sym, ◌∙◌, ap, subst, arith, inl, inr}
-use Rattle.std.specs.Prelude.{◌≢◌, All, slice_index, slice_index_or, sum_by, nat_eq, nat_lt, nat_le, ◌&&◌}
+use Rattle.std.proofs.Common.{◌≡◌, ℕ, zero, suc, ◌+◌, ◌<◌, ◌≤◌, ◌^◌, List, [], ◌∷◌, length, Option, Some, None, true, refl, sym, ◌∙◌, ap, subst, arith, inl, inr}
+use Rattle.std.specs.Prelude.{All, slice_index, slice_index_or, nat_eq, nat_lt, nat_le, ◌&&◌}
 use Rattle.std.specs.Int.{from_bool}
 use Rattle.std.specs.List.Sorted.{IsSortedByKey, IsPermutation}
 use Rattle.std.specs.Ordering.{nat_cmp}
 use Rattle.std.proofs.lemmas.Bool.{cases_lt, and_parts, eqb-true, eq-eqb, ltb-true}
 use Rattle.std.proofs.lemmas.Bool.Decides.{eqb_tells}
 use Rattle.std.proofs.lemmas.Map.Keys.{ge_from_not_lt}
-use Rattle.std.proofs.lemmas.List.{get_or-map, length-map, get_or_default}
+use Rattle.std.proofs.lemmas.List.{length-map}
 use Rattle.std.proofs.lemmas.List.Sums.{sum_by-cons}
-use Rattle.std.proofs.lemmas.List.Sorted.{sum_by-IsPermutation, All-permutation}
-use Rattle.graph_id.specs.GraphId.{level_of, tile_of_id, id_of, value_of, invalid}
+use Rattle.std.proofs.lemmas.List.Sorted.{sum_by-IsPermutation}
+use Rattle.graph_id.specs.GraphId.{level_of, tile_of_id, id_of, invalid}
 use Rattle.tile_geometry.specs.Grid.{tile_count}
 use Rattle.tile_bytes.specs.declared.tile.Tile.{Tile}
 use Rattle.tile_bytes.specs.Header.{names_tile}
 use Rattle.tile_bytes.specs.Tiles.{PassesChecks}
 use Rattle.tile_walks.specs.Keys.{key_of, keys_of, ids_of, Rise, IsLeastDouble, IsLeastTwice, tiles_with}
-use Rattle.tile_walks.proofs.IdLaws.{same_level, same_tile, whole}
+use Rattle.tile_walks.proofs.IdLaws.{whole}
 
 pub ended : (ids : List ℕ) (n i : ℕ) (found : Option ℕ) → IsLeastDouble ids i found → (n ≤ 0 → found ≡ None) → n ≤ i → (1 ≤ n → i ≤ n) → IsLeastDouble ids n found
 ended ids n i found h none past upto = elim (cases_lt 0 n) [
@@ -51,6 +51,7 @@ rise_from keys up (suc i) (suc j) below inside = climb_strictly (slice_index key
     pred zero i = zero
     pred (suc j) zero = j
     pred (suc j) (suc i) = pred j i
+
     gap : (j i : ℕ) → i < j → suc i + suc (pred j i) ≡ suc j
     gap zero i h = absurd (omega (arith, h))
     gap (suc j) zero h = omega arith
@@ -113,10 +114,10 @@ keys_rise ts sorted named none =
     elim (cases_lt (slice_index (keys_of ts) k) (slice_index (keys_of ts) (suc k))) [
       | inl below ↦ below
       | inr over ↦
-        let up = weakly ts sorted k inside in
-        let same : key_of (slice_index (ids_of ts) k) ≡ key_of (slice_index (ids_of ts) (suc k)) =
+          let up = weakly ts sorted k inside in
+          let same : key_of (slice_index (ids_of ts) k) ≡ key_of (slice_index (ids_of ts) (suc k)) =
           sym (key_there ts k (omega (arith, inside))) ∙ (omega (arith, up, over) ∙ key_there ts (suc k) inside) in
-        absurd (none k inside (one_id _ _ (named k (omega (arith, inside))) (named (suc k) inside) same))
+          absurd (none k inside (one_id _ _ (named k (omega (arith, inside))) (named (suc k) inside) same))
     ])
 
 -- ---- how many tiles have an id
@@ -149,10 +150,10 @@ some_with [] id h = absurd (omega (arith, h))
 some_with (t ∷ ts) id h = elim (eqb_tells t.id id) [
   | inl here ↦ (zero, omega arith, here.1)
   | inr other ↦
-    let c = with_cons id t ts in
-    let o : from_bool (nat_eq t.id id) ≡ 0 = ap from_bool other.0 in
-    let (k, inside, is) = some_with ts id (omega (arith, c, o, h)) in
-    (suc k, omega (arith, inside), is)
+      let c = with_cons id t ts in
+      let o : from_bool (nat_eq t.id id) ≡ 0 = ap from_bool other.0 in
+      let (k, inside, is) = some_with ts id (omega (arith, c, o, h)) in
+      (suc k, omega (arith, inside), is)
 ]
 
 -- where two tiles have an id, two neighbours have
@@ -160,23 +161,23 @@ pub neighbours_with : (ts : List Tile) (id : ℕ) → Weak ts → Named ts → 2
 neighbours_with [] id weak named h = absurd (omega (arith, h))
 neighbours_with (t ∷ ts) id weak named h = elim (eqb_tells t.id id) [
   | inl here ↦
-    let c = with_cons id t ts in
-    let o = own_counts id t here.1 in
-    let (j, inside, is) = some_with ts id (omega (arith, c, o, h)) in
-    let all : suc j < length (t ∷ ts) = omega (arith, inside) in
-    let far = climb (slice_index (keys_of (t ∷ ts))) (length (t ∷ ts)) weak 1 j (suc j) (omega arith) all in
-    let near = weak 0 (omega (arith, all)) in
-    let end = key_there (t ∷ ts) (suc j) all ∙ ap key_of is in
-    let start = key_there (t ∷ ts) 0 (omega arith) ∙ ap key_of here.1 in
-    let next = key_there (t ∷ ts) 1 (omega (arith, all)) in
-    let same : key_of (slice_index (ids_of (t ∷ ts)) 1) ≡ key_of (slice_index (ids_of (t ∷ ts)) 0) =
+      let c = with_cons id t ts in
+      let o = own_counts id t here.1 in
+      let (j, inside, is) = some_with ts id (omega (arith, c, o, h)) in
+      let all : suc j < length (t ∷ ts) = omega (arith, inside) in
+      let far = climb (slice_index (keys_of (t ∷ ts))) (length (t ∷ ts)) weak 1 j (suc j) (omega arith) all in
+      let near = weak 0 (omega (arith, all)) in
+      let end = key_there (t ∷ ts) (suc j) all ∙ ap key_of is in
+      let start = key_there (t ∷ ts) 0 (omega arith) ∙ ap key_of here.1 in
+      let next = key_there (t ∷ ts) 1 (omega (arith, all)) in
+      let same : key_of (slice_index (ids_of (t ∷ ts)) 1) ≡ key_of (slice_index (ids_of (t ∷ ts)) 0) =
       sym next ∙ (omega (arith, far, near, end, start) ∙ key_there (t ∷ ts) 0 (omega arith)) in
-    (zero, omega (arith, all), here.1, one_id _ _ (named 1 (omega (arith, all))) (named 0 (omega arith)) same ∙ here.1)
+      (zero, omega (arith, all), here.1, one_id _ _ (named 1 (omega (arith, all))) (named 0 (omega arith)) same ∙ here.1)
   | inr other ↦
-    let c = with_cons id t ts in
-    let o : from_bool (nat_eq t.id id) ≡ 0 = ap from_bool other.0 in
-    let (k, inside, is, next) = neighbours_with ts id (λ k h. weak (suc k) (omega (arith, h))) (λ k h. named (suc k) (omega (arith, h))) (omega (arith, c, o, h)) in
-    (suc k, omega (arith, inside), is, next)
+      let c = with_cons id t ts in
+      let o : from_bool (nat_eq t.id id) ≡ 0 = ap from_bool other.0 in
+      let (k, inside, is, next) = neighbours_with ts id (λ k h. weak (suc k) (omega (arith, h))) (λ k h. named (suc k) (omega (arith, h))) (omega (arith, c, o, h)) in
+      (suc k, omega (arith, inside), is, next)
 ]
 
 -- the least double of sorted tiles is the least id that two of the given tiles have
@@ -184,10 +185,10 @@ pub least_is : (given ts : List Tile) (id : ℕ) → IsPermutation given ts → 
 least_is given ts id moved sorted named ((k, inside, is, next), least) = record {
   twice = let same = sum_by-IsPermutation (λ t. from_bool (nat_eq t.id id)) given ts moved in let two = two_with ts id k inside is next in omega (arith, same, two);
   least = λ other two.
-    let same = sum_by-IsPermutation (λ t. from_bool (nat_eq t.id other)) given ts moved in
-    let (j, there, one, same_next) = neighbours_with ts other (weakly ts sorted) named (omega (arith, same, two)) in
-    let below = least j there (one ∙ sym same_next) in
-    omega (arith, below, one);
+      let same = sum_by-IsPermutation (λ t. from_bool (nat_eq t.id other)) given ts moved in
+      let (j, there, one, same_next) = neighbours_with ts other (weakly ts sorted) named (omega (arith, same, two)) in
+      let below = least j there (one ∙ sym same_next) in
+      omega (arith, below, one);
 }
 
 -- keys that rise are those of tiles of which no two have one id

@@ -1,5 +1,5 @@
 -- The parts of a GraphId.
-use Rattle.std.proofs.Common.{◌≡◌, ℕ, ◌<◌, ◌^◌, arith, refl, sym, ◌∙◌, ap, subst}
+use Rattle.std.proofs.Common.{◌≡◌, ℕ, ◌<◌, ◌^◌, arith}
 use Rattle.graph_id.specs.GraphId.{level_of, tile_of_id, id_of, value_of}
 use Rattle.tile_walks.specs.Keys.{key_of}
 

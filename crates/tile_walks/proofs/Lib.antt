@@ -5,3 +5,9 @@ pub mod Doubles
 pub mod Options
 pub mod Stands
 pub mod Transitions
+pub mod GraphRecords
+pub mod GraphLinks
+pub mod GraphTransitions
+pub mod WalkLaw
+pub mod Beginnings
+pub mod Permitted

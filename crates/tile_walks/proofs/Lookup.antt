@@ -1,7 +1,6 @@
 -- The records that a search finds are those with the GraphId.
-use Rattle.std.proofs.Common.{◌≡◌, ℕ, ◌<◌, ◌^◌, List, length, map, get_or, Option, Some, None, refl, sym, ◌∙◌, ap, subst, arith, inl, inr}
+use Rattle.std.proofs.Common.{◌≡◌, ℕ, ◌<◌, ◌^◌, List, length, Option, Some, None, sym, ◌∙◌, ap, subst, arith, inl, inr}
 use Rattle.std.specs.Prelude.{◌≢◌, IfSome, slice_get, slice_index, slice_index_or}
-use Rattle.std.specs.List.{Contains}
 use Rattle.std.proofs.lemmas.Bool.{cases_lt}
 use Rattle.std.proofs.lemmas.List.{get_or-map, length-map, get_or_default}
 use Rattle.graph_id.specs.GraphId.{level_of, tile_of_id, id_of, value_of}
@@ -11,12 +10,12 @@ use Rattle.tile_walks.specs.Records.{IsRecordOf}
 use Rattle.tile_walks.proofs.IdLaws.{same_level, same_tile, whole, key_in, place_in}
 
 -- the key at a place is that of the tile there
-key_at : (tiles : List Tile) (keys : List ℕ) (k : ℕ) (t : Tile) → keys_of tiles ≡ keys → k < length tiles → slice_index_or tiles k t ≡ t → slice_index keys k ≡ key_of t.id
+pub key_at : (tiles : List Tile) (keys : List ℕ) (k : ℕ) (t : Tile) → keys_of tiles ≡ keys → k < length tiles → slice_index_or tiles k t ≡ t → slice_index keys k ≡ key_of t.id
 key_at tiles keys k t same inside is =
     ap (λ ks. slice_index ks k) (sym same) ∙ (get_or-map (λ t. key_of t.id) tiles k t 0 inside ∙ ap (λ t. key_of t.id) is)
 
 -- places with one key are one place
-one_place : (keys : List ℕ) → Rise keys → (i j : ℕ) → i < length keys → j < length keys → slice_index keys i ≡ slice_index keys j → i ≡ j
+pub one_place : (keys : List ℕ) → Rise keys → (i j : ℕ) → i < length keys → j < length keys → slice_index keys i ≡ slice_index keys j → i ≡ j
 one_place keys rises i j h k same = elim (cases_lt i j) [
   | inl below ↦ let up = rises i j below k in absurd (omega (arith, up, same))
   | inr over ↦ elim (cases_lt j i) [
@@ -25,7 +24,7 @@ one_place keys rises i j h k same = elim (cases_lt i j) [
   ]
 ]
 
-length_keys : (tiles : List Tile) (keys : List ℕ) → keys_of tiles ≡ keys → length keys ≡ length tiles
+pub length_keys : (tiles : List Tile) (keys : List ℕ) → keys_of tiles ≡ keys → length keys ≡ length tiles
 length_keys tiles keys same = ap length (sym same) ∙ length-map tiles (λ t. key_of t.id)
 
 module _ {R : Type 0} (records : Tile → List R) (tiles : List Tile) (keys : List ℕ) (id : ℕ) (same : keys_of tiles ≡ keys) (small : id < 2 ^ 46) where

@@ -3,3 +3,5 @@ pub mod Records
 pub mod FileTiles
 pub mod WalkItems
 pub mod Steps
+pub mod WalkLaws
+pub mod Forbidden

@@ -10,9 +10,17 @@ ghost use Rattle.tile_walks.specs.Keys.{IsGraphFault, Rise, key_of, keys_of, til
 ghost use Rattle.std.specs.List.{Any};
 ghost use Rattle.tile_walks.specs.Records.{IsNodeOf, IsEdgeOf};
 ghost use Rattle.tile_walks.specs.Steps.{IsTransitionOf, transition_in};
+ghost use Rattle.tile_walks.specs.FileTiles.{file_graph};
+ghost use Rattle.tile_walks.specs.WalkItems.{IsWalkOf};
+ghost use Rattle.tile_walks.specs.Forbidden.{TilePermits};
+ghost use Rattle.way_tags.specs.declared.modes.TheConstants.{VEHICLES};
 
+use crate::forbidden::tile_permits;
+use crate::items::WalkItem;
 use crate::keys::{key, place_of};
+use crate::laws::walks_follow;
 use crate::order::{keys, least_double};
+use crate::steps::follow;
 use graph_id::GraphId;
 use std::alloc::Global;
 use std::marker::Model;
@@ -67,12 +75,15 @@ fn transition_in(tile: &Tile, place: u8, node: &NodeRec) -> Option<GraphId>
     if place >= count {
         return None;
     }
-    tile.transitions.get(from as usize + usize::from(place)).copied()
+    tile.transitions
+        .get(from as usize + usize::from(place))
+        .copied()
 }
 
 impl TileGraph {
     /// The graph of tiles that pass the checks of a tile file, in any order: it has them in order of level and number.
-    /// Linear in the tiles, but for a sort of them. `DuplicateTile` has the least id that two of the tiles have.
+    /// Linear in the tiles, but for a sort of them. `DuplicateTile` has the least id that two of the tiles have. Tiles that
+    /// each pass the checks but don't agree with each other give a graph too, whose links may lead nowhere.
     pub fn of_tiles(alloc: Global, tiles: Vec<Tile>) -> Result<TileGraph, GraphFault>
         requires { All PassesChecks tiles.items }
         ensures tiles { IfOk result (λ g. IsPermutation tiles.items g) }
@@ -124,5 +135,36 @@ impl TileGraph {
         ensures { IsTrue result ↔ Any (λ t. length t.nodes ≢ 0) self.now }
     {
         self.tiles.iter().any(|tile| tile.nodes.len() != 0)
+    }
+
+    /// Does nothing: it tells the caller that the tiles pass the checks, and stand in order.
+    fn checked(&self)
+        ensures { All PassesChecks self.now × Rise (keys_of self.now) }
+    {
+        let _ = &self.keys;
+    }
+
+    /// Whether no sequence forbids the items to the mode.
+    fn permits(&self, mode: u16, items: &[WalkItem]) -> bool
+        ensures { IsTrue result ↔ All (TilePermits mode items.now) self.now }
+    {
+        for tile in &self.tiles {
+            if !tile_permits(tile, mode, items) {
+                return false;
+            }
+        }
+        true
+    }
+
+    /// Whether these items are a walk over the tiles for one mode: they exist and lead from node to node, each edge is
+    /// open to the mode, no node between two edges is closed to it, for a vehicle no mask forbids the next edge, and no
+    /// sequence with the mode stands among the edges. Without items it is one where there is some node. Takes no memory.
+    /// Linear in the items, but for the sequences with the mode: each of them is compared with the edges from each item on.
+    pub fn tile_walk_ok(&self, items: &[WalkItem], mode: u16) -> bool
+        ensures { IsTrue result ↔ IsWalkOf (file_graph self.now) VEHICLES mode items.now }
+    {
+        self.checked();
+        walks_follow();
+        follow(self, mode, items) && self.permits(mode, items)
     }
 }

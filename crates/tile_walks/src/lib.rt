@@ -1,9 +1,11 @@
 //! Records of tiles by their GraphIds, and walks over tiles.
 #![tactic(auto)]
 
+mod forbidden;
 mod graph;
 mod items;
 mod keys;
+mod laws;
 mod order;
 mod steps;
 

@@ -136,7 +136,13 @@ fn has_node(graph: &TileGraph, id: GraphId) -> bool
 }
 
 /// Where a walk stands after a transition, and `None` where there is none.
-fn over_transition(graph: &TileGraph, mode: u16, stand: Stand, from: GraphId, place: u8) -> Option<Stand>
+fn over_transition(
+    graph: &TileGraph,
+    mode: u16,
+    stand: Stand,
+    from: GraphId,
+    place: u8,
+) -> Option<Stand>
     ensures found { IfSome result (λ next. Step graph.now VEHICLES mode stand (Transition from place) next) }
     ensures only { (next : Stand) → Step graph.now VEHICLES mode stand (Transition from place) next → result ≡ Some next }
 {

@@ -1,5 +1,5 @@
 -- What is left of the items from where the walk stands.
-use Rattle.std.proofs.Common.{ℕ, drop}
+use Rattle.std.proofs.Common.{drop}
 use Rattle.std.specs.Prelude.{◌↔◌}
 use Rattle.way_tags.specs.declared.modes.TheConstants.{VEHICLES}
 use Rattle.tile_walks.specs.declared.items.Stand.{Stand}

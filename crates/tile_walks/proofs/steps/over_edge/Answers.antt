@@ -1,4 +1,4 @@
-use Rattle.std.proofs.Common.{◌≡◌, sym, subst}
+use Rattle.std.proofs.Common.{sym, subst}
 use Rattle.std.proofs.lemmas.Bool.{both_ways}
 use Rattle.way_tags.specs.declared.modes.TheConstants.{VEHICLES}
 use Rattle.road_pieces.specs.Modes.{ShareMode}

@@ -1,5 +1,3 @@
-use Rattle.std.proofs.Common.{◌≡◌, sym, ◌∙◌, ap, Some, Option}
-use Rattle.tile_walks.specs.declared.items.Stand.{Stand}
 use Rattle.tile_walks.proofs.Options.{told, none_some}
 use Rattle.tile_walks.proofs.Stands.{stand_at}
 use Rattle.tile_walks.proofs.steps.over_transition.Goals as goal

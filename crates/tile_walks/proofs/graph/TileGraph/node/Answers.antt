@@ -1,6 +1,5 @@
-use Rattle.std.proofs.Common.{◌≡◌, ℕ, ◌<◌, ◌^◌, length, sym, ◌∙◌, subst, ap, arith, rules}
-use Rattle.std.specs.Prelude.{◌≢◌, slice_index}
-use Rattle.tile_walks.specs.Keys.{key_of, keys_of, Rise}
+use Rattle.std.proofs.Common.{sym, ◌∙◌, subst, rules}
+use Rattle.tile_walks.specs.Keys.{Rise}
 use Rattle.tile_walks.proofs.Lookup.{found_at, only_at, none_at}
 use Rattle.tile_walks.proofs.graph.TileGraph.node.Goals as goal
 

@@ -1,4 +1,4 @@
-use Rattle.std.proofs.Common.{◌≡◌, ℕ, sym, ◌∙◌, subst, rules, map}
+use Rattle.std.proofs.Common.{sym, ◌∙◌, subst, rules, map}
 use Rattle.tile_walks.specs.Keys.{Rise}
 use Rattle.tile_walks.specs.Steps.{transition_in}
 use Rattle.tile_walks.proofs.Lookup.{none_at}
