@@ -11,3 +11,4 @@ pub mod GraphTransitions
 pub mod WalkLaw
 pub mod Beginnings
 pub mod Permitted
+pub mod RecordsLaw

@@ -5,3 +5,4 @@ pub mod WalkItems
 pub mod Steps
 pub mod WalkLaws
 pub mod Forbidden
+pub mod GraphLaws

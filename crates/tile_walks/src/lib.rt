@@ -11,3 +11,4 @@ mod steps;
 
 pub use graph::{GraphFault, TileGraph};
 pub use items::WalkItem;
+pub use laws::records_are_of_graph;
