@@ -1,0 +1,14 @@
+pub mod FoundKeys
+pub mod IdLaws
+pub mod Lookup
+pub mod Doubles
+pub mod Options
+pub mod Stands
+pub mod Transitions
+pub mod GraphRecords
+pub mod GraphLinks
+pub mod GraphTransitions
+pub mod WalkLaw
+pub mod Beginnings
+pub mod Permitted
+pub mod RecordsLaw
