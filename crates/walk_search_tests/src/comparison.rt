@@ -3,8 +3,8 @@
 use crate::bits::count;
 use crate::dice::Dice;
 use crate::draws::{Drawn, draw, written};
+use crate::read_graph::{Graph, graph_of};
 use crate::road_search::{Roads, road_ends, roads_of};
-use crate::tile_graph::{Graph, graph_of};
 use crate::tile_search::tile_ends;
 use program_runs::built;
 use std::alloc::{AllocError, Global};

@@ -11,12 +11,12 @@ mod dice;
 #[cfg(test)]
 mod draws;
 #[cfg(test)]
+mod read_graph;
+#[cfg(test)]
 mod road_search;
 #[cfg(test)]
 mod steps;
 #[cfg(test)]
 mod tag_table;
-#[cfg(test)]
-mod tile_graph;
 #[cfg(test)]
 mod tile_search;

@@ -1,7 +1,7 @@
 //! Walks over the graph of tiles, item by item: edges, and transitions, which have no length.
 
 use crate::bits::{BOUND, bit, bit_of_id, has, no_sets, put, set_of};
-use crate::tile_graph::Graph;
+use crate::read_graph::Graph;
 use std::alloc::{AllocError, Global};
 
 /// The nodes of a junction, as a set of their numbers.
