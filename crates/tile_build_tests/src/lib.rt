@@ -8,6 +8,8 @@ mod barriers;
 #[cfg(test)]
 mod full;
 #[cfg(test)]
+mod level_borders;
+#[cfg(test)]
 mod levels;
 #[cfg(test)]
 mod names;
